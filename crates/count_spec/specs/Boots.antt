@@ -1,0 +1,89 @@
+-- The boots of a stream: the stretches between restarts of its sub-agent.
+-- A restart shows in the boot mark, the arrival less the uptime: the receiver's clock when the uptime was 0.
+-- Items are of any type that shows a stamp. Every list has the LATEST FIRST, and the current boot first.
+use Rattle.std.specs.Prelude.{ℕ, ◌-◌, Bool, false, cond, ◌||◌, nat_le, List, [], ◌∷◌, map, ℤ, pos, ◌-ℤ◌, int_lt, unsigned_abs}
+use Rattle.std.specs.Int.{int_rem_euclid}
+use Rattle.std.specs.Ordering.{int_eq}
+use Rattle.count_spec.specs.Windows.{greatest, Answer, First, Repeat, Late, answer, counted}
+
+-- what places a datagram: its arrival and uptime in ms, and its sequence word
+pub record Stamp : Type 0 where
+  pub arrival : ℕ
+  pub uptime : ℕ
+  pub sequence : ℕ
+
+-- where the receiver's clock stood when the uptime was 0
+abbrev pub boot_mark : Stamp → ℤ
+boot_mark s = pos s.arrival -ℤ pos s.uptime
+
+-- the sequence words of these items
+abbrev pub sequences : {X : Type 0} → (X → Stamp) → List X → List ℕ
+sequences stamp items = map (λ x. (stamp x).sequence) items
+
+-- whether this answer counted the number
+abbrev pub counts : Answer → ℤ → Bool
+counts (First place m) n = int_eq m n
+counts Repeat n = false
+counts Late n = false
+
+-- the boot mark of the First item whose number this is
+abbrev pub boot_mark_of : {X : Type 0} → (X → Stamp) → ℕ → List X → ℤ → ℤ
+boot_mark_of stamp width [] n = pos 0
+boot_mark_of stamp width (x ∷ before) n =
+    cond (counts (answer width (counted width (sequences stamp before)) (stamp x).sequence) n)
+    (boot_mark (stamp x))
+    (boot_mark_of stamp width before n)
+
+-- the boot mark of the First item that has the greatest counted number
+abbrev pub newest_boot_mark : {X : Type 0} → (X → Stamp) → ℕ → List X → ℤ
+newest_boot_mark stamp width items =
+    boot_mark_of stamp width items (greatest (counted width (sequences stamp items)))
+
+-- whether d is at most the slack away from a multiple of 2^32: a wrap of the uptime moves a boot mark by 2^32
+abbrev pub is_near_multiple : ℕ → ℤ → Bool
+is_near_multiple slack d =
+    let above : ℕ = unsigned_abs (int_rem_euclid d (pos 4294967296)) in
+    nat_le above slack || nat_le (4294967296 - above) slack
+
+-- where an item belongs: in the current boot, in the next boot that it begins, or, of an earlier one, in none
+pub data BootPlace : Type 0 where
+  Current : BootPlace
+  Next : BootPlace
+  Stale : BootPlace
+
+-- the place of an item whose boot mark less that of the newest item is d
+abbrev pub place_at : ℕ → ℤ → BootPlace
+place_at slack d = cond (is_near_multiple slack d) Current (cond (int_lt (pos 0) d) Next Stale)
+
+-- the place of an item after these boots: the first item begins a boot
+abbrev pub boot_place : {X : Type 0} → (X → Stamp) → ℕ → ℕ → List (List X) → X → BootPlace
+boot_place stamp slack width [] x = Next
+boot_place stamp slack width (current ∷ closed) x =
+    place_at slack (boot_mark (stamp x) -ℤ newest_boot_mark stamp width current)
+
+-- the boots with one item more, at its place
+abbrev pub placed : {X : Type 0} → BootPlace → X → List (List X) → List (List X)
+placed Current x [] = (x ∷ []) ∷ []
+placed Current x (current ∷ closed) = (x ∷ current) ∷ closed
+placed Next x boots = (x ∷ []) ∷ boots
+placed Stale x boots = boots
+
+-- the boots of these items
+abbrev pub boots : {X : Type 0} → (X → Stamp) → ℕ → ℕ → List X → List (List X)
+boots stamp slack width [] = []
+boots {X} stamp slack width (x ∷ before) =
+    let so_far : List (List X) = boots stamp slack width before in
+    placed (boot_place stamp slack width so_far x) x so_far
+
+-- the item, where it is stale, and the stale ones before it
+abbrev pub with_stale : {X : Type 0} → BootPlace → X → List X → List X
+with_stale Current x stale = stale
+with_stale Next x stale = stale
+with_stale Stale x stale = x ∷ stale
+
+-- the items that are in no boot
+abbrev pub stale_items : {X : Type 0} → (X → Stamp) → ℕ → ℕ → List X → List X
+stale_items stamp slack width [] = []
+stale_items stamp slack width (x ∷ before) =
+    let place : BootPlace = boot_place stamp slack width (boots stamp slack width before) x in
+    with_stale place x (stale_items stamp slack width before)

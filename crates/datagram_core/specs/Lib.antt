@@ -1,0 +1,2 @@
+pub mod Heads
+pub use Rattle.wire_spec.specs.Heads as WireHeads

@@ -1,0 +1,70 @@
+//! The program `sflow`: the commands over standard input and standard output.
+#![tactic(auto)]
+
+use sflow_tool::{InputSource, OutputSink, Status, run};
+use std::alloc::{AllocError, Global};
+use std::env::Env;
+use std::process::ExitCode;
+use std::{env, io};
+
+#[cfg(test)]
+mod tests;
+
+// The exit code where the machine gives no list of words.
+const NO_WORDS: u8 = 9;
+
+// Why there are no words.
+#[derive(Debug, Drop)]
+enum NoWords {
+    Memory,
+    Machine,
+}
+
+impl From<AllocError> for NoWords {
+    fn from(_: AllocError) -> NoWords {
+        NoWords::Memory
+    }
+}
+
+impl From<io::Error> for NoWords {
+    fn from(error: io::Error) -> NoWords {
+        match error.kind() {
+            io::ErrorKind::OutOfMemory => NoWords::Memory,
+            _ => NoWords::Machine,
+        }
+    }
+}
+
+// The words of the command line, without the program's name.
+fn words<R: Env + Alloc<A = Global>>(rt: &R) -> Result<Vec<String>, NoWords> {
+    let mut words = Vec::new(rt.alloc());
+    for word in env::args(rt)?.skip(1) {
+        words.push(word).map_err(AllocError::from)?;
+    }
+    Ok(words)
+}
+
+// Says on standard error how the run ended, where there is something to say.
+fn report(rt: &impl Eprint, status: &Status) -> ExitCode {
+    let text = status.text();
+    let text = text.as_str();
+    if !text.is_empty() {
+        let _ = eprintln!(rt; "sflow: {text}");
+    }
+    ExitCode::from(status.code())
+}
+
+fn main(rt: HostRuntime) -> ExitCode {
+    let words = match words(&rt) {
+        Ok(words) => words,
+        Err(NoWords::Memory) => return report(&rt, &Status::Memory),
+        Err(NoWords::Machine) => {
+            let _ = eprintln!(rt; "sflow: no words");
+            return ExitCode::from(NO_WORDS);
+        }
+    };
+    let mut source = InputSource::new(rt);
+    let mut sink = OutputSink::new(rt);
+    let status = run(rt.alloc(), &words, &mut source, &mut sink);
+    report(&rt, &status)
+}

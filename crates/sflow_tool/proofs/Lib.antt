@@ -1,0 +1,5 @@
+pub mod Entries
+pub mod Captures
+pub mod Reports
+pub mod Plans
+pub mod Endings

@@ -1,0 +1,29 @@
+//! The wire formats, captures and texts of sFlow as definitions, and their laws.
+//!
+//! The definitions stand in `specs/`. A function here has no body: its contract is a law of theirs.
+#![tactic(auto)]
+
+mod captures;
+mod examples;
+mod fault;
+mod grammar_laws;
+mod input_kind;
+mod pad;
+mod spelling_laws;
+
+pub use captures::{
+    capture_grows, capture_rows, capture_walk, fault_is_within, front_is_read, one_capture_reading,
+    reading_is_the_capture,
+};
+pub use examples::{datagrams_with_samples, datagrams_without_samples};
+pub use fault::{Fault, FaultKind};
+pub use grammar_laws::{
+    faults_stand_within_the_bytes, one_reading_of_a_datagram, one_reading_of_a_front,
+    one_reading_of_a_whole, reading_finds_what_is_there,
+};
+pub use input_kind::InputKind;
+pub use pad::Pad;
+pub use spelling_laws::{
+    free_padding_takes_zero_padding, lawful_values_are_spelled, one_spelling_with_zero_padding,
+    spelling_and_reading_are_inverse, spellings_have_one_length,
+};

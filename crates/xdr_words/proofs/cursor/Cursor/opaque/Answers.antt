@@ -1,0 +1,13 @@
+use Rattle.wire_spec.proofs.Items.{opaque_agrees}
+use Rattle.xdr_words.proofs.Said.{bytes_seen, says_value, says_fault}
+use Rattle.xdr_words.proofs.cursor.Cursor.opaque.Goals as goal
+
+pub returns-clause-spelled : goal.returns-clause-spelled
+returns-clause-spelled c =
+    says_value _ _ _ _ _ (opaque_agrees c.args.self.now.pad) _ _
+    c.take_opaque.result (bytes_seen _ _ c.self.view_is c.self.invariant.1) c.take_opaque.ensures
+
+pub returns-clause-fault : goal.returns-clause-fault
+returns-clause-fault c =
+    says_fault _ _ _ _ _ (opaque_agrees c.args.self.now.pad) _ _
+    c.take_opaque.result (bytes_seen _ _ c.self.view_is c.self.invariant.1) c.take_opaque.ensures

@@ -1,0 +1,6 @@
+pub mod Readers
+pub mod Items
+pub use Rattle.wire_spec.specs.Bytes
+pub use Rattle.wire_spec.specs.Fails
+pub use Rattle.wire_spec.specs.Reading
+pub use Rattle.wire_spec.specs.Spells

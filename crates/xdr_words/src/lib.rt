@@ -1,0 +1,9 @@
+//! Words and bytes of XDR (RFC 4506), read from borrowed bytes: an item, or the fault that it is.
+#![tactic(auto)]
+
+mod cursor;
+mod fault;
+
+pub use cursor::Cursor;
+pub use fault::XdrFault;
+pub use wire_spec::Pad;
