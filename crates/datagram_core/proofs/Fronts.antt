@@ -7,12 +7,13 @@ use Rattle.wire_spec.specs.Bytes.{AreBytes}
 use Rattle.wire_spec.specs.Shapes.{Tree, none}
 use Rattle.wire_spec.specs.Spells.{IsWord, Spells}
 use Rattle.wire_spec.specs.Fails.{Remaining, past, Fails}
-use Rattle.wire_spec.specs.Heads.{AgentAddress, unknown, ipv4, ipv6, Head, address_tree, datagram_tree}
+use Rattle.wire_spec.specs.Heads.{Head, address_tree, datagram_tree}
 use Rattle.wire_spec.specs.Reading.{reading}
 use Rattle.wire_spec.specs.Tables.{datagram}
 use Rattle.wire_spec.specs.Whole.{from_start, SpellsWhole}
 use Rattle.wire_spec.proofs.Steps.{IsSo}
 use Rattle.wire_spec.proofs.Grammar.{agrees}
+use Rattle.wire_spec.proofs.OneHead.{same_fields, ok_value}
 use Rattle.xdr_words.specs.Readers.{Reader, remaining}
 use Rattle.datagram_core.specs.Heads.{front, front_tree}
 
@@ -196,20 +197,6 @@ spelled_front p bytes h whole =
 
 -- ---- a front has one head and one count
 
-same_address : (a b : AgentAddress) → address_tree a ≡ address_tree b → a ≡ b
-same_address unknown unknown e = refl
-same_address unknown (ipv4 y) e = absurd cc
-same_address unknown (ipv6 y) e = absurd cc
-same_address (ipv4 x) unknown e = absurd cc
-same_address (ipv4 x) (ipv4 y) e = let f : x ≡ y = cc in ap ipv4 f
-same_address (ipv4 x) (ipv6 y) e = absurd cc
-same_address (ipv6 x) unknown e = absurd cc
-same_address (ipv6 x) (ipv4 y) e = absurd cc
-same_address (ipv6 x) (ipv6 y) e = let f : x ≡ y = cc in ap ipv6 f
-
-ok_value : {A : Type 0} (r : Result A Fault) (x y : A) → r ≡ Ok x → r ≡ Ok y → x ≡ y
-ok_value {A} r x y one two = let P : Result A Fault = Ok x in let Q : Result A Fault = Ok y in let both : P ≡ Q = sym one ∙ two in cc
-
 same_front : (g h : Head) (m n : ℕ) (c d : Remaining) (r : Result (Tree × Remaining) Fault)
     → r ≡ Ok (front_tree g m, c) → r ≡ Ok (front_tree h n, d) → (g ≡ h) × (m ≡ n) × (c ≡ d)
 same_front g h m n c d r one two =
@@ -217,20 +204,11 @@ same_front g h m n c d r one two =
     let trees : front_tree g m ≡ front_tree h n = ap (λ (x : Tree × Remaining). x.0) pairs in
     let rest : c ≡ d = ap (λ (x : Tree × Remaining). x.1) pairs in
     let address : address_tree g.agent ≡ address_tree h.agent = cc in
-    let agent : g.agent ≡ h.agent = same_address g.agent h.agent address in
     let sub : g.sub_agent ≡ h.sub_agent = cc in
     let sequence : g.sequence ≡ h.sequence = cc in
     let uptime : g.uptime ≡ h.uptime = cc in
     let count : m ≡ n = cc in
-    let make : AgentAddress → ℕ → ℕ → ℕ → Head =
-    λ a s q u. record { agent = a; sub_agent = s; sequence = q; uptime = u } in (
-      ap (λ (a : AgentAddress). make a g.sub_agent g.sequence g.uptime) agent
-          ∙ ap (λ (s : ℕ). make h.agent s g.sequence g.uptime) sub
-          ∙ ap (λ (q : ℕ). make h.agent h.sub_agent q g.uptime) sequence
-          ∙ ap (λ (u : ℕ). make h.agent h.sub_agent h.sequence u) uptime,
-      count,
-      rest,
-    )
+    (same_fields g h address sub sequence uptime, count, rest)
 
 -- ---- the same for a reader at the start of the bytes
 

@@ -1,29 +1,54 @@
 -- What the room holds decides for the whole input: such a capture is shorter than the room.
-use Rattle.std.proofs.Common.{◌≡◌, ℕ, ◌+◌, ◌<◌, ◌≤◌, List, [], ◌∷◌, ◌++◌, length, take, Option, Some, None, sym, ap, subst, ◌∙◌, append-nil, arith, length-take-le}
+use Rattle.std.proofs.Common.{refl, ◌≡◌, ℕ, ◌+◌, ◌<◌, ◌≤◌, List, [], ◌∷◌, ◌++◌, length, take, Option, Some, None, sym, ap, subst, ◌∙◌, append-nil, arith, length-take-le}
 use Rattle.std.proofs.lemmas.List.{length-append}
 use Rattle.std.proofs.lemmas.Option.{same_Some}
 use Rattle.std.specs.Io.KnownBytes.{Consumes, IsAtEnd}
 use Rattle.wire_spec.specs.Captures.{Entry, entry_bytes, capture_header, Capture}
+use Rattle.wire_spec.specs.declared.pad.Pad.TheVariants.{Any}
 use Rattle.wire_spec.specs.Heads.{Head}
+use Rattle.wire_spec.specs.Shapes.{none}
 use Rattle.wire_spec.specs.Padding.{padding_of}
 use Rattle.wire_spec.proofs.CaptureEntries.{length-entry_bytes}
+use Rattle.wire_spec.proofs.OneHead.{one_head}
 use Rattle.sflow_io.specs.Streams.{Fills}
-use Rattle.sflow_tool.specs.Replays.{IsDatagram, AreDatagrams, Replays}
+use Rattle.sflow_tool.specs.Replays.{IsDatagram, AreDatagrams, Replays, report_of}
 use Rattle.sflow_tool.proofs.Captures.{Behind, nothing, entry, capture_parts, same_entries}
 
 -- ---- an entry that is no datagram
 
 no_heads : (e : Entry) (heads : List Head) → AreDatagrams (e ∷ []) heads → ((h : Head) → IsDatagram e.bytes h → ⊥) → ⊥
-no_heads e [] all none = all
-no_heads e (h ∷ []) all none = none h all.0
-no_heads e (h ∷ k ∷ more) all none = all.1
+no_heads e [] all never = all
+no_heads e (h ∷ []) all never = never h all.0
+no_heads e (h ∷ k ∷ more) all never = all.1
 
 pub not_replayed : (e : Entry) (input : List ℕ) → Capture (e ∷ []) input → ((h : Head) → IsDatagram e.bytes h → ⊥)
     → (text : List ℕ) → Replays input text → ⊥
-not_replayed e input c none text made =
+not_replayed e input c never text made =
     let same : made.entries ≡ e ∷ [] = same_entries made.entries (e ∷ []) input made.capture c in
     let P : List Entry → Type 0 = λ l. AreDatagrams l made.heads in
-    no_heads e made.heads (subst P same made.datagrams) none
+    no_heads e made.heads (subst P same made.datagrams) never
+
+-- ---- there is one report
+
+same_heads : (entries : List Entry) (heads others : List Head) → AreDatagrams entries heads → AreDatagrams entries others
+    → heads ≡ others
+same_heads [] [] [] one two = refl
+same_heads [] [] (k ∷ others) one two = absurd two
+same_heads [] (h ∷ heads) others one two = absurd one
+same_heads (e ∷ entries) [] others one two = absurd one
+same_heads (e ∷ entries) (h ∷ heads) [] one two = absurd two
+same_heads (e ∷ entries) (h ∷ heads) (k ∷ others) one two =
+    let first : h ≡ k = (one_head Any e.bytes h k none none one.0 two.0).0 in
+    let rest : heads ≡ others = same_heads entries heads others one.1 two.1 in
+    ap (λ (x : Head). x ∷ heads) first ∙ ap (λ (xs : List Head). k ∷ xs) rest
+
+pub one_report : (input text other : List ℕ) → Replays input text → Replays input other → text ≡ other
+one_report input text other one two =
+    let same : one.entries ≡ two.entries = same_entries one.entries two.entries input one.capture two.capture in
+    let P : List Entry → Type 0 = λ l. AreDatagrams l one.heads in
+    let heads : one.heads ≡ two.heads =
+    same_heads two.entries one.heads two.heads (subst P same one.datagrams) two.datagrams in
+    one.reported ∙ ap report_of heads ∙ sym two.reported
 
 -- ---- how long such a capture is
 

@@ -9,6 +9,7 @@ mod status;
 mod top;
 
 pub use command::Command;
+pub use replay::one_report;
 pub use sflow_io::{Failed, InputSource, MemorySink, MemorySource, OutputSink, Sink, Source};
 pub use status::{Line, Status};
 pub use top::run;

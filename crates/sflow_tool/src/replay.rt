@@ -15,6 +15,11 @@ use wire_spec::{InputKind, Pad};
 // A capture of at most one entry has at most 65,556 bytes.
 const ROOM: usize = 65_557;
 
+/// An input has one report at most.
+pub fn one_report()
+    ensures { (input text other : List ℕ) → Replays input text → Replays input other → text ≡ other }
+{}
+
 // Reads a capture and writes its report. All memory is taken before the first byte is read.
 pub fn replay<S: Source, K: Sink>(alloc: Global, source: &mut S, sink: &mut K) -> Status
     ensures { Runs commands.Replay (S.left source.old) (S.left source.new) (K.taken sink.old) (K.taken sink.new)

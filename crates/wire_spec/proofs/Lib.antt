@@ -7,6 +7,7 @@ pub mod Frames
 pub mod Grammar
 pub mod Places
 pub mod OneReading
+pub mod OneHead
 pub mod Spellings
 pub mod Computed
 pub mod EntryHeads

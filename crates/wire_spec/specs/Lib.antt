@@ -11,6 +11,7 @@ pub mod Spelling
 pub mod Tables
 pub mod Heads
 pub mod Examples
+pub mod RecordExamples
 pub mod Captures
 pub mod CaptureReading
 pub mod CaptureRows

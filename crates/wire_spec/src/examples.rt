@@ -7,6 +7,7 @@ ghost use Rattle.wire_spec.specs.Whole.{trailing, SpellsWhole, FailsWhole};
 ghost use Rattle.wire_spec.specs.Heads.{datagram_tree};
 ghost use Rattle.wire_spec.specs.Tables.{datagram};
 ghost use Rattle.wire_spec.specs.Examples.{words, example_head, empty_datagram, flow_tree, flow_datagram, cut_record, padded_header, padded_header_tree, gateway_datagram};
+ghost use Rattle.wire_spec.specs.RecordExamples.{every_record, every_record_tree};
 
 /// Datagrams without samples.
 pub fn datagrams_without_samples()
@@ -23,6 +24,9 @@ pub fn datagrams_without_samples()
 /// Datagrams with samples and records.
 pub fn datagrams_with_samples()
     ensures flow { SpellsWhole Zero datagram flow_datagram (datagram_tree (example_head 1) (flow_tree none & none)) }
+
+    // Each record of the tables, samples in both forms, a tail, and formats outside of the tables.
+    ensures every_record { SpellsWhole Zero datagram every_record every_record_tree }
 
     // An item is bounded by the innermost body, also where the datagram goes on.
     ensures cut_in_a_body { FailsWhole Any datagram cut_record (short 76 8 0) }

@@ -4,7 +4,8 @@ ghost use Rattle.wire_spec.specs.declared.pad.Pad.{Pad};
 ghost use Rattle.wire_spec.specs.declared.fault.Fault.{Fault};
 ghost use Rattle.wire_spec.specs.Bytes.{AreBytes};
 ghost use Rattle.wire_spec.specs.Exactly.{OneOfEither};
-ghost use Rattle.wire_spec.specs.Shapes.{Shape, Tree};
+ghost use Rattle.wire_spec.specs.Shapes.{Shape, Tree, Trees};
+ghost use Rattle.wire_spec.specs.Heads.{Head, datagram_tree};
 ghost use Rattle.wire_spec.specs.Fails.{Remaining, Fails, IsWithin};
 ghost use Rattle.wire_spec.specs.Whole.{from_start, SpellsWhole, FailsWhole, SpellsFront, whole_reading};
 ghost use Rattle.wire_spec.specs.Tables.{datagram};
@@ -26,6 +27,13 @@ pub fn one_reading_of_a_whole()
 pub fn one_reading_of_a_datagram()
     ensures { (p : Pad) (bytes : List ℕ) → AreBytes bytes
         → OneOfEither (SpellsWhole p datagram bytes) (FailsWhole p datagram bytes) }
+{}
+
+/// A datagram has one head and one list of samples.
+pub fn one_head_of_a_datagram()
+    ensures { (p : Pad) (bytes : List ℕ) (g h : Head) (s t : Trees)
+        → SpellsWhole p datagram bytes (datagram_tree g s) → SpellsWhole p datagram bytes (datagram_tree h t)
+        → (g ≡ h) × (s ≡ t) }
 {}
 
 /// A fault stands within the bytes or right behind them, and what is short has fewer bytes left than it needs.

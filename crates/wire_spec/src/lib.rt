@@ -18,8 +18,8 @@ pub use captures::{
 pub use examples::{datagrams_with_samples, datagrams_without_samples};
 pub use fault::{Fault, FaultKind};
 pub use grammar_laws::{
-    faults_stand_within_the_bytes, one_reading_of_a_datagram, one_reading_of_a_front,
-    one_reading_of_a_whole, reading_finds_what_is_there,
+    faults_stand_within_the_bytes, one_head_of_a_datagram, one_reading_of_a_datagram,
+    one_reading_of_a_front, one_reading_of_a_whole, reading_finds_what_is_there,
 };
 pub use input_kind::InputKind;
 pub use pad::Pad;

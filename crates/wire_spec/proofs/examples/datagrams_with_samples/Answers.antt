@@ -12,6 +12,7 @@ use Rattle.wire_spec.specs.Examples.{
   padded_header_tree,
   gateway_datagram,
 }
+use Rattle.wire_spec.specs.RecordExamples.{every_record, every_record_tree}
 use Rattle.wire_spec.proofs.Computed.{is_datagram, is_fault}
 use Rattle.wire_spec.proofs.examples.datagrams_with_samples.Goals as goal
 
@@ -29,3 +30,6 @@ returns-clause-padding_is_zero c = is_fault Zero padded_header (bad_padding 157)
 
 pub returns-clause-segment_kind : goal.returns-clause-segment_kind
 returns-clause-segment_kind c = is_fault Any (gateway_datagram 3) (unknown_word segment 100 3) refl refl
+
+pub returns-clause-every_record : goal.returns-clause-every_record
+returns-clause-every_record c = is_datagram Zero every_record every_record_tree refl refl
