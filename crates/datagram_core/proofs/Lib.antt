@@ -1,1 +1,3 @@
-pub mod Fronts
+pub mod Whole
+pub mod Stand
+pub mod Empty

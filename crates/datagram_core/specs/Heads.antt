@@ -1,9 +1,10 @@
 -- A datagram as its parts: the head, and the samples.
-use Rattle.std.specs.Prelude.{ℕ}
-use Rattle.wire_spec.specs.Shapes.{version, Shape, word, structure, union, end, ◌then◌, empty, row, Tree, none, ◌&◌}
+use Rattle.std.specs.Prelude.{List}
+use Rattle.wire_spec.specs.Shapes.{word, Shapes, end, ◌then◌, Tree, Trees, none, ◌&◌}
 use Rattle.wire_spec.specs.Heads.{Head, address_tree}
 use Rattle.wire_spec.specs.Tables.{agent_address}
 use Rattle.data_format.specs.Addresses.{address_of}
+use Rattle.data_format.specs.Views.{FrameView}
 use Rattle.datagram_core.specs.declared.head.DatagramHead.{DatagramHead}
 
 -- what a head holds
@@ -15,17 +16,14 @@ head_of h = record {
   uptime = h.uptime;
 }
 
--- what contracts see of a datagram without samples
+-- what contracts see of a datagram: its head, and the frames of its samples in their order
 pub record DatagramView : Type 0 where
   pub head : Head
+  pub samples : List FrameView
 
--- ---- a datagram up to its samples
+-- the members of a head, which follow the version word
+abbrev pub head_members : Shapes
+head_members = agent_address then word then word then word then end
 
--- the version, the head, and the number of samples
-abbrev pub front : Shape
-front = union version (row 5 (structure (
-    agent_address then word then word then word then word then end)) empty)
-
-abbrev pub front_tree : Head → ℕ → Tree
-front_tree h samples = Tree.union 5 (Tree.structure (
-    address_tree h.agent & Tree.word h.sub_agent & Tree.word h.sequence & Tree.word h.uptime & Tree.word samples & none))
+abbrev pub head_trees : Head → Trees
+head_trees h = address_tree h.agent & Tree.word h.sub_agent & Tree.word h.sequence & Tree.word h.uptime & none

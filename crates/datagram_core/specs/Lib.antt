@@ -1,2 +1,6 @@
 pub mod Heads
+pub mod Tables
+pub mod Trees
+pub mod Samples
+pub mod Parts
 pub use Rattle.wire_spec.specs.Heads as WireHeads

@@ -1,14 +1,21 @@
-ghost use Rattle.std.specs.Prelude.{◌≡◌, IfOk, IsOkAnd, length, take};
+ghost use Rattle.std.specs.Prelude.{◌≡◌, [], IfOk, IfErr, IsOkAnd};
 ghost use Rattle.wire_spec.specs.Heads.{Head, datagram_tree};
-ghost use Rattle.wire_spec.specs.Reading.{reading};
+ghost use Rattle.wire_spec.specs.Reading.{members_at};
 ghost use Rattle.wire_spec.specs.Shapes.{none};
 ghost use Rattle.wire_spec.specs.Tables.{datagram};
-ghost use Rattle.wire_spec.specs.Whole.{SpellsWhole};
-ghost use Rattle.xdr_words.specs.Readers.{Reads, remaining};
-ghost use Rattle.datagram_core.specs.Heads.{head_of, front, front_tree};
+ghost use Rattle.wire_spec.specs.Whole.{SpellsWhole, FailsWhole, whole_reading};
+ghost use Rattle.xdr_words.specs.Readers.{Reads, Gives, remaining};
+ghost use Rattle.data_format.specs.Frames.{frames_at};
+ghost use Rattle.data_format.specs.Ranges.{AreRanges};
+ghost use Rattle.data_format.specs.Trees.{table_test};
+ghost use Rattle.datagram_core.specs.Heads.{head_of, head_members, head_trees};
+ghost use Rattle.datagram_core.specs.Parts.{parts_of, parts_at, parts_reading};
+ghost use Rattle.datagram_core.specs.Tables.{samples_read, datagram_read};
+ghost use Rattle.datagram_core.specs.Trees.{tree_of};
 
-use crate::DatagramHead;
-use data_format::{Address, Fault, FaultKind};
+use crate::check::SampleCheck;
+use crate::{DatagramHead, Samples};
+use data_format::{Address, Fault, FaultKind, Frames};
 use std::marker::Model;
 use wire_spec::Pad;
 use xdr_words::Cursor;
@@ -16,12 +23,11 @@ use xdr_words::Cursor;
 /// The most bytes that a datagram has.
 const MOST: usize = 65_535;
 
-/// A datagram that was read from borrowed bytes: its head. One with samples isn't read yet.
+/// A datagram that was read from borrowed bytes: its head and its samples.
 #[derive(Drop)]
 pub struct Datagram<'a> {
     head: DatagramHead,
-    // What follows the number of samples: nothing.
-    samples: &'a [u8],
+    samples: Samples<'a>,
 }
 
 impl<'a> Model for Datagram<'a> {
@@ -29,44 +35,29 @@ impl<'a> Model for Datagram<'a> {
 
     ghost Value = { DatagramView };
 
-    ghost view = { λ d. record { head = head_of d.head } };
-}
-
-// The version, the head, and the number of samples.
-#[derive(Drop)]
-struct Front {
-    head: DatagramHead,
-    samples: u32,
+    ghost view = { λ d. record { head = head_of d.head; samples = d.samples } };
 }
 
 impl<'a> Datagram<'a> {
-    /// The datagram without samples that the bytes spell, all of them. Else a fault; of the fault nothing is said,
-    /// but that bytes which spell such a datagram have none.
+    /// The datagram that the bytes spell, all of them, or the first fault: `TooLong` at 65,535 where there are more
+    /// bytes than that; else from the front on `Short` at an item that isn't all there, `Version` at the version word
+    /// where it isn't 5, `AddressType` at the word of the agent's address where it is above 2, `Pad` at a padding byte
+    /// that isn't zero though zeros are asked for; else `Trailing` behind the last sample, where bytes are left.
     pub fn parse(bytes: &'a [u8], pad: Pad) -> Result<Datagram<'a>, Fault>
-        ensures spelled { IfOk result (λ d. SpellsWhole pad datagram bytes.now (datagram_tree d.head none)) }
+        ensures spelled { IfOk result (λ d. SpellsWhole pad datagram_read bytes.now (tree_of d)) }
+        ensures fault { IfErr result (λ f. FailsWhole pad datagram_read bytes.now f) }
+        ensures exact { Gives tree_of (λ f. f) result (whole_reading pad datagram_read bytes.now) }
+
+        // The body of each sample is the range of the bytes at its place.
+        ensures ranges { IfOk result (λ d. AreRanges bytes.now d.samples) }
+
+        // Without samples it is the datagram of the whole grammar, and each such datagram is read.
+        ensures empty { IfOk result (λ d. d.samples ≡ []
+            → SpellsWhole pad datagram bytes.now (datagram_tree d.head none)) }
         ensures complete { (h : Head) → SpellsWhole pad datagram bytes.now (datagram_tree h none)
-            → IsOkAnd result (λ d. d.head ≡ h) }
+            → IsOkAnd result (λ d. (d.head ≡ h) × (d.samples ≡ [])) }
     {
-        if bytes.len() > MOST {
-            return Err(Fault {
-                at: MOST,
-                kind: FaultKind::TooLong,
-            });
-        }
-        let mut cursor = Cursor::new(bytes, pad);
-        let front = read_front(&mut cursor)?;
-        if front.samples > 0 || cursor.left() > 0 {
-            return Err(Fault {
-                at: cursor.at(),
-                kind: FaultKind::Trailing {
-                    left: cursor.left() as u64,
-                },
-            });
-        }
-        Ok(Datagram {
-            head: front.head,
-            samples: &bytes[bytes.len()..],
-        })
+        parse_parts(bytes, pad)
     }
 
     /// What stands before the samples.
@@ -75,12 +66,41 @@ impl<'a> Datagram<'a> {
     {
         self.head
     }
+
+    /// The samples, from the first one on.
+    pub fn samples(&self) -> Samples<'a>
+        ensures { result ≡ self.now.samples }
+    {
+        self.samples.fork()
+    }
 }
 
-// What stands before the samples, or the first fault of it.
-fn read_front(cursor: &mut Cursor<'_>) -> Result<Front, Fault>
-    ensures { Reads (λ f. front_tree (head_of f.head) f.samples) (λ f. f) cursor.old cursor.new result
-        (reading cursor.old.pad front (remaining cursor.old)) }
+// The head and the samples of all the bytes, or the first fault.
+fn parse_parts(bytes: &[u8], pad: Pad) -> Result<Datagram<'_>, Fault>
+    ensures { Gives parts_of (λ f. f) result (parts_reading pad samples_read bytes.now) }
+{
+    if bytes.len() > MOST {
+        return Err(Fault {
+            at: MOST,
+            kind: FaultKind::TooLong,
+        });
+    }
+    let mut cursor = Cursor::new(bytes, pad);
+    let datagram = read_parts(&mut cursor, pad)?;
+    let left = cursor.left();
+    if left > 0 {
+        return Err(Fault {
+            at: cursor.at(),
+            kind: FaultKind::Trailing { left: left as u64 },
+        });
+    }
+    Ok(datagram)
+}
+
+// The version, the head and the samples, or the first fault.
+fn read_parts<'a>(cursor: &mut Cursor<'a>, pad: Pad) -> Result<Datagram<'a>, Fault>
+    requires { pad ≡ cursor.old.pad }
+    ensures { Reads parts_of (λ f. f) cursor.old cursor.new result (parts_at pad samples_read (remaining cursor.old)) }
 {
     let mut next = cursor.fork();
     let version = next.word()?;
@@ -90,15 +110,34 @@ fn read_front(cursor: &mut Cursor<'_>) -> Result<Front, Fault>
             kind: FaultKind::Version { found: version },
         });
     }
-    let front = Front {
-        head: DatagramHead {
-            agent: Address::read(&mut next)?,
-            sub_agent: next.word()?,
-            sequence: next.word()?,
-            uptime: next.word()?,
-        },
-        samples: next.word()?,
+    let head = read_head(&mut next)?;
+    let samples = read_samples(&mut next, pad)?;
+    *cursor = next;
+    Ok(Datagram { head, samples })
+}
+
+// What stands between the version and the samples, or the first fault.
+fn read_head(cursor: &mut Cursor<'_>) -> Result<DatagramHead, Fault>
+    ensures { Reads (λ h. head_trees (head_of h)) (λ f. f) cursor.old cursor.new result
+        (members_at cursor.old.pad head_members (remaining cursor.old)) }
+{
+    let mut next = cursor.fork();
+    let head = DatagramHead {
+        agent: Address::read(&mut next)?,
+        sub_agent: next.word()?,
+        sequence: next.word()?,
+        uptime: next.word()?,
     };
     *cursor = next;
-    Ok(front)
+    Ok(head)
+}
+
+// The samples, or the first fault.
+fn read_samples<'a>(cursor: &mut Cursor<'a>, pad: Pad) -> Result<Samples<'a>, Fault>
+    requires { pad ≡ cursor.old.pad }
+    ensures { Reads (λ s. s) (λ f. f) cursor.old cursor.new result
+        (frames_at pad (table_test pad samples_read) (remaining cursor.old)) }
+{
+    let frames = Frames::read(cursor, pad, &SampleCheck)?;
+    Ok(Samples::over(frames))
 }

@@ -1,5 +1,6 @@
-use crate::{Datagram, DatagramHead};
-use data_format::{Address, Fault, FaultKind};
+use crate::check::SampleCheck;
+use crate::{Datagram, DatagramHead, Sample};
+use data_format::{Address, Fault, FaultKind, Format, Frames};
 use std::test::Fail;
 use wire_spec::Pad;
 use xdr_words::{Cursor, XdrFault};
@@ -64,5 +65,90 @@ fn addresses_of_each_kind(rt: HostRuntime) -> Result<(), Fail> {
         Address::read(&mut Cursor::new(&other, Pad::Any)),
         Err(fault)
     );
+    Ok(())
+}
+
+// A count of two; format 1:1 with three bytes and their padding; format 0:1 with no bytes.
+const TWO_FRAMES: [u8; 24] = [
+    0, 0, 0, 2, 0, 0, 0x10, 1, 0, 0, 0, 3, 7, 8, 9, 0, 0, 0, 0, 1, 0, 0, 0, 0,
+];
+
+#[test]
+fn samples_in_their_order(rt: HostRuntime) -> Result<(), Fail> {
+    let mut bytes = [0; 48];
+    bytes[..24].copy_from_slice(&DATAGRAM[..24]);
+    bytes[24..].copy_from_slice(&TWO_FRAMES);
+    let datagram = Datagram::parse(&bytes, Pad::Zero)?;
+    let mut samples = datagram.samples();
+    match samples.next() {
+        Some(Sample::Other(frame)) => {
+            assert_eq!(rt;
+                frame.format,
+                Format {
+                    enterprise: 1,
+                    number: 1
+                }
+            );
+            assert_eq!(rt; frame.body, [7, 8, 9].as_slice());
+            assert_eq!(rt; frame.at, 36);
+        }
+        None => assert!(rt; false),
+    }
+    match samples.fork().next() {
+        Some(Sample::Other(frame)) => {
+            assert_eq!(rt; frame.format.to_word(), 1);
+            assert_eq!(rt; frame.body.len(), 0);
+            assert_eq!(rt; frame.at, 48);
+        }
+        None => assert!(rt; false),
+    }
+    assert!(rt; samples.next().is_some());
+    assert!(rt; samples.next().is_none());
+    Ok(())
+}
+
+#[test]
+fn first_faults_of_datagrams(rt: HostRuntime) -> Result<(), Fail> {
+    let mut bytes = [0; 52];
+    bytes[..24].copy_from_slice(&DATAGRAM[..24]);
+    bytes[24..48].copy_from_slice(&TWO_FRAMES);
+    bytes[39] = 1;
+    let cut = FaultKind::Short { need: 4, left: 0 };
+    let more = FaultKind::Trailing { left: 4 };
+    assert_eq!(rt;
+        fault_of(&bytes[..48], Pad::Zero),
+        Some(Fault {
+            at: 39,
+            kind: FaultKind::Pad
+        })
+    );
+    assert_eq!(rt; fault_of(&bytes[..48], Pad::Any), None);
+    assert_eq!(rt;
+        fault_of(&bytes[..44], Pad::Any),
+        Some(Fault { at: 44, kind: cut })
+    );
+    assert_eq!(rt;
+        fault_of(&bytes, Pad::Any),
+        Some(Fault { at: 48, kind: more })
+    );
+    Ok(())
+}
+
+fn fault_of(bytes: &[u8], pad: Pad) -> Option<Fault> {
+    Datagram::parse(bytes, pad).err()
+}
+
+#[test]
+fn frames_and_bodies(rt: HostRuntime) -> Result<(), Fail> {
+    let mut cursor = Cursor::new(&TWO_FRAMES, Pad::Any);
+    let frames = Frames::read(&mut cursor, Pad::Any, &SampleCheck)?;
+    assert_eq!(rt; frames.len(), 2);
+    assert_eq!(rt; cursor.left(), 0);
+    let mut inside = Cursor::within(&TWO_FRAMES[8..16], Pad::Zero, 8);
+    let body = inside.body()?;
+    assert_eq!(rt; body.bytes, [7, 8, 9].as_slice());
+    assert_eq!(rt; body.at, 12);
+    inside.body_end(3)?;
+    assert_eq!(rt; inside.at(), 16);
     Ok(())
 }

@@ -4,14 +4,23 @@
 //! input that is always at its end would keep its contract. They are only tried by tests and programs.
 #![tactic(auto)]
 
+mod capture;
+mod capture_header;
+mod capture_reader;
+mod capture_writer;
+mod entry_reader;
 mod input;
 mod memory_sink;
 mod memory_source;
 mod output;
+mod read_ahead;
 mod retry;
 mod sink;
 mod source;
 
+pub use capture::{Memory, Next, ReadRefusal, Stage, WriteFault};
+pub use capture_reader::CaptureReader;
+pub use capture_writer::CaptureWriter;
 pub use data_format::Failed;
 pub use input::InputSource;
 pub use memory_sink::MemorySink;
@@ -19,6 +28,7 @@ pub use memory_source::MemorySource;
 pub use output::OutputSink;
 pub use sink::{Sink, write_all};
 pub use source::{Source, read_most};
+pub use wire_spec::InputKind;
 
 #[cfg(test)]
 mod tests;

@@ -1,6 +1,8 @@
 ghost use Rattle.std.specs.Prelude.{◌≡◌, ◌<◌, ◌^◌, ℕ, List, length, vec_len, IfOk, IfSome, IfNone};
 ghost use Rattle.sflow_tool.specs.declared.command.Command.TheVariants as commands;
-ghost use Rattle.sflow_tool.specs.Replays.{Replays, report_of};
+ghost use Rattle.sflow_tool.specs.Replays.{IsDatagram, Replays, report_of};
+ghost use Rattle.wire_spec.specs.Heads.{Head};
+ghost use Rattle.datagram_core.specs.Heads.{head_of};
 ghost use Rattle.sflow_tool.specs.Runs.{Runs};
 ghost use Rattle.sflow_tool.specs.Views.{heads_of};
 
@@ -67,9 +69,23 @@ fn plan(input: &[u8]) -> Option<Option<DatagramHead>>
     match only_entry(input) {
         None => None,
         Some(None) => Some(None),
-        Some(Some(entry)) => match Datagram::parse(entry.bytes, Pad::Any) {
-            Ok(datagram) => Some(Some(datagram.head())),
-            Err(_) => None,
+        Some(Some(entry)) => match only_head(entry.bytes) {
+            Some(head) => Some(Some(head)),
+            None => None,
         },
+    }
+}
+
+// The head of a datagram that has no samples; None where the bytes aren't such a datagram.
+fn only_head(bytes: &[u8]) -> Option<DatagramHead>
+    ensures found { IfSome result (λ head. IsDatagram bytes.now (head_of head)) }
+    ensures none { IfNone result ((head : Head) → IsDatagram bytes.now head → ⊥) }
+{
+    let Ok(datagram) = Datagram::parse(bytes, Pad::Any) else {
+        return None;
+    };
+    match datagram.samples().next() {
+        None => Some(datagram.head()),
+        Some(_) => None,
     }
 }

@@ -97,7 +97,7 @@ hyper_agrees = record {
 
 -- ---- padding
 
-abbrev PaddingIsSo : Pad → ℕ → List ℕ → Result (Unit {0}) Fault → Type 0
+abbrev pub PaddingIsSo : Pad → ℕ → List ℕ → Result (Unit {0}) Fault → Type 0
 PaddingIsSo p at bytes (Ok u) = MayPad p bytes
 PaddingIsSo p at bytes (Err f) = FailsPadding p at bytes f
 
@@ -111,7 +111,7 @@ zeros_so at (zero ∷ bytes) = go (zeros_at (suc at) bytes) (zeros_so (suc at) b
     go (Err f) h = h
 zeros_so at (suc b ∷ bytes) = (at, refl, refl)
 
-padding_so : (p : Pad) (at : ℕ) (bytes : List ℕ) → PaddingIsSo p at bytes (padding_at p at bytes)
+pub padding_so : (p : Pad) (at : ℕ) (bytes : List ℕ) → PaddingIsSo p at bytes (padding_at p at bytes)
 padding_so pads.Any at bytes = tt
 padding_so pads.Zero at bytes = zeros_so at bytes
 

@@ -7,6 +7,10 @@ pub mod Frames
 pub mod Grammar
 pub mod Places
 pub mod OneReading
+pub mod Runs
+pub mod Bodies
+pub mod FreePadding
+pub mod LastMember
 pub mod OneHead
 pub mod Spellings
 pub mod Computed

@@ -30,7 +30,7 @@ same_fields g h address sub sequence uptime =
     ∙ ap (λ (q : ℕ). make h.agent h.sub_agent q g.uptime) sequence
     ∙ ap (λ (u : ℕ). make h.agent h.sub_agent h.sequence u) uptime
 
-same_parts : (g h : Head) (s t : Trees) → datagram_tree g s ≡ datagram_tree h t → (g ≡ h) × (s ≡ t)
+pub same_parts : (g h : Head) (s t : Trees) → datagram_tree g s ≡ datagram_tree h t → (g ≡ h) × (s ≡ t)
 same_parts g h s t e =
     let address : address_tree g.agent ≡ address_tree h.agent = cc in
     let sub : g.sub_agent ≡ h.sub_agent = cc in

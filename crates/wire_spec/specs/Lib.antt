@@ -6,6 +6,8 @@ pub mod Spells
 pub mod Fails
 pub mod FaultNames
 pub mod Reading
+pub mod Bodies
+pub mod Members
 pub mod Whole
 pub mod Spelling
 pub mod Tables

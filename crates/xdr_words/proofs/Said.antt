@@ -30,3 +30,20 @@ module _ {X E A : Type 0} (value : X → A) (fault : E → Fault) (Good : A → 
   says_fault (Err e) fits h =
       let P : Result (A × Remaining) Fault → Type 0 = IsSo (remaining old) Good Bad in
       subst P h.0 (all.so (remaining old) fits)
+
+-- the same of one answer that is so
+module _ {X E A : Type 0} (value : X → A) (fault : E → Fault) (Good : A → List ℕ → Type 0)
+    (Bad : Remaining → Fault → Type 0) (old new : Reader) (read : Result (A × Remaining) Fault)
+    (so : IsSo (remaining old) Good Bad read) where
+  pub so_value : (result : Result X E) → Reads value fault old new result read
+      → IfOk result (λ x. Passes (Good (value x)) old new)
+  so_value (Ok x) h =
+      let P : Result (A × Remaining) Fault → Type 0 = IsSo (remaining old) Good Bad in
+      let o = subst P h.0 so in
+      record { front = o.0; holds = o.1; bytes = o.2; at = o.3; pad = h.1 }
+  so_value (Err e) h = tt
+
+  pub so_fault : (result : Result X E) → Reads value fault old new result read
+      → IfErr result (λ e. Bad (remaining old) (fault e))
+  so_fault (Ok x) h = tt
+  so_fault (Err e) h = let P : Result (A × Remaining) Fault → Type 0 = IsSo (remaining old) Good Bad in subst P h.0 so

@@ -1,5 +1,7 @@
 pub mod Readers
 pub mod Items
+pub mod Bodies
+pub use Rattle.wire_spec.specs.Bodies as WireBodies
 pub use Rattle.wire_spec.specs.Bytes
 pub use Rattle.wire_spec.specs.Fails
 pub use Rattle.wire_spec.specs.Reading

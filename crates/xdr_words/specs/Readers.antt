@@ -25,6 +25,11 @@ abbrev pub Tests : {E : Type 0} → (E → Fault) → Result Unit E → Result (
 Tests fault (Ok u) read = read ≡ Ok tt
 Tests fault (Err e) read = read ≡ Err (fault e)
 
+-- what a call answered, by value or by fault, is what reading gives
+abbrev pub Gives : {X E Y : Type 0} → (X → Y) → (E → Fault) → Result X E → Result Y Fault → Type 0
+Gives value fault (Ok x) read = read ≡ Ok (value x)
+Gives value fault (Err e) read = read ≡ Err (fault e)
+
 -- the reader has passed a front of which this holds
 pub record Passes (Front : List ℕ → Type 0) (old new : Reader) : Type 0 where
   pub front : List ℕ

@@ -1,14 +1,18 @@
 ghost use Rattle.std.specs.Prelude.{◌≡◌, ◌+◌, ◌<◌, ◌≤◌, ◌^◌, length, take, IfOk, IfErr};
+ghost use Rattle.std.specs.Prelude as list;
 ghost use Rattle.std.specs.Int.{w32, w64, from_be_bytes, to_be_bytes};
+ghost use Rattle.wire_spec.specs.Bodies.{IsCounted, FailsCounted, IsPaddingOf, counted_body_at};
 ghost use Rattle.wire_spec.specs.Bytes.{AreBytes};
-ghost use Rattle.wire_spec.specs.Fails.{FailsItem, FailsFixed, Fails};
-ghost use Rattle.wire_spec.specs.Reading.{word_at, hyper_at, fixed_at, opaque_at, padding_at};
+ghost use Rattle.wire_spec.specs.Fails.{FailsItem, FailsFixed, FailsPadding, Fails};
+ghost use Rattle.wire_spec.specs.Padding.{padding_of};
+ghost use Rattle.wire_spec.specs.Reading.{word_at, hyper_at, fixed_at, opaque_at, padding_at, body_end_at};
 ghost use Rattle.wire_spec.specs.Shapes.{opaque};
 ghost use Rattle.wire_spec.specs.Spells.{IsWord, IsHyper, IsFixed, IsOpaque};
 ghost use Rattle.xdr_words.specs.Readers.{Reader, Reads, Passes, Tests, remaining};
+ghost use Rattle.xdr_words.specs.Bodies.{inside_of};
 ghost use Rattle.xdr_words.specs.Items.{fault_of};
 
-use crate::XdrFault;
+use crate::{Body, XdrFault};
 use byteorder::{BigEndian, ByteOrder};
 use std::marker::Model;
 use wire_spec::Pad;
@@ -131,6 +135,70 @@ impl<'a> Cursor<'a> {
     {
         let _ = &self.bytes;
         self.take_opaque()
+    }
+
+    /// The count word of an array: how many values follow (section 4.13). `Short` where four bytes aren't left.
+    pub fn list_count(&mut self) -> Result<u32, XdrFault>
+        ensures spelled { IfOk result (λ n. Passes (IsWord n) self.old self.new) }
+        ensures fault { IfErr result (λ e. FailsItem 4 (remaining self.old) (fault_of e)) }
+        ensures exact { Reads (λ n. n) fault_of self.old self.new result (word_at (remaining self.old)) }
+    {
+        self.word()
+    }
+
+    /// A length word, and then that many bytes. It stops before their padding, which is there. `Short` at the length
+    /// word, or behind it at the bytes with their padding, where that item isn't all there.
+    pub fn body(&mut self) -> Result<Body<'a>, XdrFault>
+        ensures spelled { IfOk result (λ b. Passes (IsCounted b.bytes.now) self.old self.new) }
+        ensures place { IfOk result (λ b. b.at ≡ self.old.at + 4) }
+        ensures end { IfOk result (λ b. b.at + length b.bytes.now < 2 ^ 32) }
+        ensures padding { IfOk result (λ b. padding_of (length b.bytes.now) ≤ length self.new.bytes) }
+        ensures fault { IfErr result (λ e. FailsCounted (remaining self.old) (fault_of e)) }
+        ensures exact { Reads inside_of fault_of self.old self.new result (counted_body_at (remaining self.old)) }
+    {
+        let _ = &self.bytes;
+        self.take_body()
+    }
+
+    /// The padding of a body of `length` bytes, which was read before it and is all there. `Pad` at the first padding
+    /// byte that isn't zero, where zeros are asked for.
+    pub fn body_end(&mut self, length: usize) -> Result<(), XdrFault>
+        requires below { length < 2 ^ 32 }
+        requires there { padding_of length ≤ list.length self.old.bytes }
+        ensures spelled { IfOk result (λ u. Passes (IsPaddingOf self.old.pad length) self.old self.new) }
+        ensures fault { IfErr result (λ e. FailsPadding self.old.pad self.old.at (take (padding_of length) self.old.bytes) (fault_of e)) }
+        ensures exact { Reads (λ u. tt) fault_of self.old self.new result (body_end_at self.old.pad length (remaining self.old)) }
+    {
+        let _ = &self.bytes;
+        self.take_padding(length)
+    }
+
+    fn take_body(&mut self) -> Result<Body<'a>, XdrFault>
+        ensures end { IfOk result (λ b. b.at + length b.bytes.now < 2 ^ 32) }
+        ensures exact { Reads inside_of fault_of self.old self.new result (counted_body_at (remaining self.old)) }
+    {
+        let mut next = self.fork();
+        let n = next.word()? as usize;
+        let need = n + (4 - n % 4) % 4;
+        if next.bytes.len() < need {
+            return Err(next.short(need));
+        }
+        let (bytes, rest) = next.bytes.split_at(n);
+        let at = next.at;
+        *self = Cursor::within(rest, self.pad, at + n);
+        Ok(Body { bytes, at })
+    }
+
+    fn take_padding(&mut self, length: usize) -> Result<(), XdrFault>
+        requires below { length < 2 ^ 32 }
+        requires there { padding_of length ≤ list.length self.old.bytes }
+        ensures { Reads (λ u. tt) fault_of self.old self.new result (body_end_at self.old.pad length (remaining self.old)) }
+    {
+        let padding = (4 - length % 4) % 4;
+        let (filler, rest) = self.bytes.split_at(padding);
+        check_padding(self.pad, self.at, filler)?;
+        *self = Cursor::within(rest, self.pad, self.at + padding);
+        Ok(())
     }
 
     fn take_fixed(&mut self, n: usize) -> Result<&'a [u8], XdrFault>

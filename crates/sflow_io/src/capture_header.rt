@@ -1,0 +1,41 @@
+ghost use Rattle.std.specs.Prelude.{◌≡◌, ℕ, List, Some};
+ghost use Rattle.std.specs.Io.KnownBytes.{prepend_known};
+ghost use Rattle.sflow_io.specs.CaptureAnswers.{HasReadCause, ReadsHeader};
+
+use crate::read_ahead::ReadAhead;
+use crate::{InputKind, ReadRefusal, Source};
+
+/// The four bytes that a capture begins with.
+const MAGIC: [u8; 4] = *b"SFLC";
+
+/// The magic, and the version 1 as a word.
+pub(crate) const HEADER: [u8; 8] = *b"SFLC\0\0\0\x01";
+
+// The header at the start of the input.
+pub(crate) fn read_header<S: Source>(
+    ahead: &mut ReadAhead,
+    source: &mut S,
+) -> Result<(), ReadRefusal>
+    ensures told { (bytes : List ℕ) → prepend_known ahead.old (S.left source.old) ≡ Some bytes
+        → ReadsHeader bytes (prepend_known ahead.new (S.left source.new)) result }
+    ensures cause { HasReadCause (S.faults source.old) (S.faults source.new) result }
+{
+    let mut room = [0u8; 8];
+    let Ok(count) = ahead.read_most(source, &mut room) else {
+        return Err(ReadRefusal::ReadFault);
+    };
+    let front = &room[..count];
+    if front == HEADER.as_slice() {
+        return Ok(());
+    }
+    if front.starts_with(MAGIC.as_slice()) {
+        return Err(ReadRefusal::BadInput {
+            at: 4,
+            kind: InputKind::Version,
+        });
+    }
+    Err(ReadRefusal::BadInput {
+        at: 0,
+        kind: InputKind::Magic,
+    })
+}
