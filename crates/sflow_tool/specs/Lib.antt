@@ -1,8 +1,16 @@
 pub mod Commands
+pub mod Items
+pub mod Lines
+pub mod Faults
+pub mod Checks
+pub mod Walks
 pub mod Statuses
 pub mod Replays
+pub mod Tallies
+pub mod Outputs
+pub mod Endings
+pub mod Collects
 pub mod Runs
 pub mod Views
-pub mod Entries
 pub use Rattle.sflow_io.specs.Causes
 pub use Rattle.sflow_io.specs.Streams
