@@ -1,3 +1,5 @@
 pub mod Again
 pub mod Ranges
 pub mod Tables
+pub mod TableFrames
+pub mod Parts
