@@ -3,3 +3,4 @@ pub mod Ranges
 pub mod Tables
 pub mod TableFrames
 pub mod Parts
+pub mod Samples

@@ -1,9 +1,9 @@
 -- Members and the frames behind them are a structure of the grammar.
-use Rattle.std.proofs.Common.{◌≡◌, List, Result, Ok, Err, refl, ap, subst, ◌∙◌}
+use Rattle.std.proofs.Common.{◌≡◌, ℕ, List, Result, Ok, Err, refl, ap, subst, ◌∙◌}
 use Rattle.wire_spec.specs.declared.pad.Pad.{Pad}
 use Rattle.wire_spec.specs.declared.fault.Fault.{Fault}
 use Rattle.wire_spec.specs.Bytes.{AreBytes}
-use Rattle.wire_spec.specs.Shapes.{array, frame, Shapes, Table, Tree, Trees}
+use Rattle.wire_spec.specs.Shapes.{array, frame, Shapes, Table, Tree, known, Trees}
 use Rattle.wire_spec.specs.Spells.{Spells, SpellsAll}
 use Rattle.wire_spec.specs.Fails.{Remaining, Fails, FailsMember}
 use Rattle.wire_spec.specs.Members.{with_last_tree}
@@ -81,6 +81,18 @@ parts_fault p ss T test b f alike fits e =
     failed : (r : Result (Parts × Remaining) Fault) → (r >>= without_place) ≡ Err f → (r >>= as_tree T) ≡ Err f
     failed (Ok y) e = absurd cc
     failed (Err g) e = let same : g ≡ f = cc in rw same refl
+
+-- as the inside of a frame of format k
+pub parts_inside : (p : Pad) (ss : Shapes) (T : Table) (b : Remaining) (k : ℕ)
+    → (reading p (with_frames ss T) b >>= λ x. let o : Result Tree Fault = Ok (known k x.0 x.1.bytes) in o)
+    ≡ (sample_reading p ss (table_test p T) b >>= λ x. Ok (known k (parts_tree T x.0) x.1))
+parts_inside p ss T b k = rw (parts_as_structure p ss T b) (inside (parts_at p ss (table_test p T) b))
+  where
+    inside : (r : Result (Parts × Remaining) Fault)
+        → ((r >>= as_tree T) >>= λ x. let o : Result Tree Fault = Ok (known k x.0 x.1.bytes) in o)
+        ≡ ((r >>= without_place) >>= λ x. Ok (known k (parts_tree T x.0) x.1))
+    inside (Ok x) = refl
+    inside (Err f) = refl
 
 -- ---- what the parts are
 
