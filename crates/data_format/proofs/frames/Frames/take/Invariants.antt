@@ -4,7 +4,7 @@ use Rattle.wire_spec.specs.Bodies.{items_at}
 use Rattle.wire_spec.proofs.Runs.{IsUnderWay}
 use Rattle.xdr_words.specs.Readers.{remaining}
 use Rattle.data_format.specs.Frames.{checked_at}
-use Rattle.data_format.proofs.frames.Frames.read.Given as goal
+use Rattle.data_format.proofs.frames.Frames.take.Given as goal
 
 abbrev pub invariant-loop : goal.invariant-loop
 invariant-loop g l =
