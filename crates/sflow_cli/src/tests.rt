@@ -83,9 +83,15 @@ const PLAIN: Case<'static> = Case {
 };
 
 const CHECK: Case<'static> = Case {
+    name: "",
     words: &["check"],
+    input: &[&HEADER, &BEFORE_28, &DATAGRAM],
+    piece: 4096,
+    read_fails: &[],
+    most: 4096,
+    write_fails: &[],
+    status: Status::Done,
     taken: "checked 1 faulty 0\n",
-    ..PLAIN
 };
 
 fn bad_input(at: u128, kind: InputKind) -> Status {
@@ -363,35 +369,55 @@ fn other_inputs_are_refused(rt: HostRuntime) -> Result<(), Fail> {
     Ok(())
 }
 
-// Each beginning of a capture of one entry, by its length, under both commands.
+// What comes of the first bytes of a capture of one entry, so many of its 48.
+fn status_of_a_beginning(length: usize) -> Status {
+    if length < 4 {
+        return bad_input(0, InputKind::Magic);
+    }
+    if length < 8 {
+        return bad_input(4, InputKind::Version);
+    }
+    if length == 8 {
+        return Status::Done;
+    }
+    bad_input(8, InputKind::Cut)
+}
+
+fn try_beginning(
+    rt: &impl std::process::Abort,
+    alloc: Global,
+    bytes: &[u8],
+    word: &str,
+    no_entries: &str,
+) -> Result<(), Fail> {
+    let case = Case {
+        name: "a beginning",
+        words: &[word],
+        input: &[bytes],
+        piece: 4096,
+        read_fails: &[],
+        most: 4096,
+        write_fails: &[],
+        status: status_of_a_beginning(bytes.len()),
+        taken: if bytes.len() == 8 { no_entries } else { "" },
+    };
+    try_case(rt, alloc, &case)
+}
+
 #[test]
 fn beginnings_of_a_capture_are_refused_where_they_end(rt: HostRuntime) -> Result<(), Fail> {
     let alloc = rt.alloc();
     let whole = joined(alloc, &[&HEADER, &BEFORE_28, &DATAGRAM])?;
     assert_eq!(rt; whole.len(), 48);
     for length in 0..48usize {
-        let (status, replayed, checked) = match length {
-            0..=3 => (bad_input(0, InputKind::Magic), "", ""),
-            4..=7 => (bad_input(4, InputKind::Version), "", ""),
-            8 => (Status::Done, NO_ENTRY, "checked 0 faulty 0\n"),
-            _ => (bad_input(8, InputKind::Cut), "", ""),
-        };
-        let case = Case {
-            name: "a beginning",
-            input: &[&whole[..length]],
-            status,
-            taken: replayed,
-            ..PLAIN
-        };
-        try_case(&rt, alloc, &case)?;
-        let case = Case {
-            name: "a beginning that is checked",
-            input: &[&whole[..length]],
-            status,
-            taken: checked,
-            ..CHECK
-        };
-        try_case(&rt, alloc, &case)?;
+        try_beginning(&rt, alloc, &whole[..length], "replay", NO_ENTRY)?;
+        try_beginning(
+            &rt,
+            alloc,
+            &whole[..length],
+            "check",
+            "checked 0 faulty 0\n",
+        )?;
     }
     Ok(())
 }
