@@ -1,0 +1,76 @@
+#!/usr/bin/env python3
+"""Times a command over a capture beside `wc` and a plain copy: the best of three runs of each, all in one go.
+
+    bench/measure.py CAPTURE COPY COMMAND
+
+COPY is the file that the copy writes, best in memory. COMMAND is run by the shell, with the capture as its input; what
+it prints goes into CAPTURE.out.
+"""
+import mmap
+import os
+import struct
+import subprocess
+import sys
+import time
+
+RUNS = 3
+
+
+def datagrams_in(path):
+    with open(path, "rb") as file, mmap.mmap(file.fileno(), 0, access=mmap.ACCESS_READ) as held:
+        at, count = 8, 0
+        while at < len(held):
+            length, = struct.unpack_from(">I", held, at + 8)
+            at += 12 + length + -length % 4
+            count += 1
+        return count
+
+
+def started(command, capture):
+    with open(capture, "rb") as source, open(f"{capture}.out", "wb") as out:
+        return subprocess.Popen(["sh", "-c", command], stdin=source, stdout=out)
+
+
+def seconds(command, capture):
+    """The least time of three runs. Status 1 says that datagrams are malformed, and is no failure."""
+    least = float("inf")
+    for _ in range(RUNS):
+        begin = time.perf_counter()
+        status = started(command, capture).wait()
+        least = min(least, time.perf_counter() - begin)
+        if status not in (0, 1):
+            sys.exit(f"bench: `{command}` ended with status {status}")
+    return least
+
+
+def peak_memory(command, capture):
+    """The most resident memory of the command in KiB, as the system keeps it for the process while it runs."""
+    process = started(f"exec {command}", capture)
+    peak = 0
+    while process.poll() is None:
+        try:
+            with open(f"/proc/{process.pid}/status") as status:
+                marks = [line for line in status if line.startswith("VmHWM")]
+        except OSError:
+            break
+        if marks:
+            peak = max(peak, int(marks[0].split()[1]))
+        time.sleep(0.002)
+    process.wait()
+    return peak
+
+
+def main():
+    capture, copy, command = sys.argv[1:]
+    size, count = os.path.getsize(capture), datagrams_in(capture)
+    print(f"{capture}: {size:,} bytes, {count:,} datagrams")
+    rows = [("cat | wc -c", "cat | wc -c"), ("copy", f"dd bs=64k of='{copy}' 2> /dev/null"), (command, command)]
+    times = {name: seconds(line, capture) for name, line in rows}
+    print(f"{'':24}{'s':>8}{'MB/s':>10}{'datagrams/s':>14}{'of the copy':>13}")
+    for name, took in times.items():
+        print(f"{name:24}{took:8.3f}{size / took / 1e6:10.0f}{count / took:14,.0f}{times['copy'] / took:13.2f}")
+    print(f"peak resident memory of `{command}`: {peak_memory(command, capture):,} KiB")
+
+
+if __name__ == "__main__":
+    main()

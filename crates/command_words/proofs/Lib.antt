@@ -1,0 +1,11 @@
+pub mod Named
+pub mod Hyphens
+pub mod Counting
+pub mod ClapRules
+pub mod Spelled
+pub mod LawfulReading
+pub mod ClapRows
+pub mod ClapWalk
+pub mod ClapTakes
+pub mod Asked
+pub mod CommandReading

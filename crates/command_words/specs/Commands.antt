@@ -1,0 +1,52 @@
+-- The commands: their names, their rules, and what lawful words ask for.
+use Rattle.std.specs.Prelude.{◌≡◌, List, [], ◌∷◌, Option, Some, None, codes, if◌then◌else◌, nat_lt, option_and_then}
+use Rattle.std.specs.Str.{bytes_eq}
+use Rattle.wire_spec.specs.declared.pad.Pad.{Pad}
+use Rattle.wire_spec.specs.declared.pad.Pad.TheVariants.{Any, Zero}
+use Rattle.command_words.specs.declared.arguments.Form.TheVariants.{Flag}
+use Rattle.command_words.specs.declared.arguments.CommandName.{CommandName}
+use Rattle.command_words.specs.declared.arguments.CommandName.TheVariants as name
+use Rattle.command_words.specs.declared.command.Command.{Command}
+use Rattle.command_words.specs.declared.command.Command.TheVariants.{Replay, Check}
+use Rattle.command_words.specs.Rules.{Text, Rule}
+use Rattle.command_words.specs.Pieces.{Piece, AreLawful, count_of, spelling}
+use Rattle.command_words.specs.Reading.{lawful_pieces}
+
+-- a command's first word
+abbrev pub word_of : CommandName → Text
+word_of name.Replay = codes "replay"
+word_of name.Check = codes "check"
+
+abbrev pub name_of : Text → Option CommandName
+name_of word =
+    if bytes_eq word (word_of name.Replay) then Some name.Replay
+    else (if bytes_eq word (word_of name.Check) then Some name.Check else None)
+
+-- a command's options and flags
+abbrev pub rules_of : CommandName → List Rule
+rules_of name.Replay = []
+rules_of name.Check = record { name = codes "zero"; form = Flag } ∷ []
+
+-- the padding is zero where the flag stands
+abbrev pub pad_of : List Piece → Pad
+pad_of pieces = if nat_lt 0 (count_of (codes "zero") pieces) then Zero else Any
+
+-- the command of that name with the values of its pieces
+abbrev pub command_with : CommandName → List Piece → Option Command
+command_with name.Replay pieces = Some Replay
+command_with name.Check pieces = Some (Check (pad_of pieces))
+
+-- the words are a command's name and lawful pieces, which give the command its values
+pub record Asks (words : List Text) (pieces : List Piece) (command : Command) : Type 0 where
+  pub name : CommandName
+  pub spelled : words ≡ word_of name ∷ spelling pieces
+  pub lawful : AreLawful (rules_of name) pieces
+  pub values : command_with name pieces ≡ Some command
+
+abbrev pub command_named : List Text → CommandName → Option Command
+command_named words name = option_and_then (command_with name) (lawful_pieces (rules_of name) words)
+
+-- the command that the words ask for, or None where they ask for none
+abbrev pub command_of : List Text → Option Command
+command_of [] = None
+command_of (word ∷ words) = option_and_then (command_named words) (name_of word)

@@ -1,0 +1,68 @@
+ghost use Rattle.std.specs.Prelude.{◌≡◌, map};
+ghost use Rattle.command_words.specs.Arguments.{rules_in};
+ghost use Rattle.command_words.specs.Commands.{name_of, rules_of, word_of};
+
+/// What an option or a flag asks for.
+#[derive(Clone, Copy, Debug, PartialEq, Eq)]
+pub enum Form {
+    /// A flag: one word, without a text.
+    Flag,
+    /// An option with a text, which may be left out.
+    Optional,
+    /// An option with a text, which must be there.
+    Required,
+}
+
+/// An option or a flag of a command.
+#[derive(Clone, Copy, Debug)]
+pub struct Argument {
+    /// Its name, without the two hyphens before it.
+    pub name: &'static str,
+    pub form: Form,
+}
+
+/// The commands, by their names.
+#[derive(Clone, Copy, Debug, PartialEq, Eq)]
+pub enum CommandName {
+    Replay,
+    Check,
+}
+
+static REPLAY: [Argument; 0] = [];
+
+static CHECK: [Argument; 1] = [Argument {
+    name: "zero",
+    form: Form::Flag,
+}];
+
+impl CommandName {
+    // The command of this name.
+    pub(crate) fn named(word: &str) -> Option<CommandName>
+        ensures { result ≡ name_of word.now }
+    {
+        match word {
+            "replay" => Some(CommandName::Replay),
+            "check" => Some(CommandName::Check),
+            _ => None,
+        }
+    }
+
+    pub(crate) fn word(self) -> &'static str
+        ensures { result.now ≡ word_of self }
+    {
+        match self {
+            CommandName::Replay => "replay",
+            CommandName::Check => "check",
+        }
+    }
+
+    // Its options and flags.
+    pub(crate) fn arguments(self) -> &'static [Argument]
+        ensures { rules_in result.now ≡ rules_of self }
+    {
+        match self {
+            CommandName::Replay => &REPLAY,
+            CommandName::Check => &CHECK,
+        }
+    }
+}

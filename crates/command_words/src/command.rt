@@ -1,0 +1,85 @@
+ghost use Rattle.std.specs.Prelude.{◌≡◌, ◌↔◌, Bool, codes, if◌then◌else◌, IfOk, None, Some, Err, map, string_bytes};
+ghost use Rattle.clap.specs.Words.{found_of, kind_of, one_text};
+ghost use Rattle.command_words.specs.Commands.{command_named, command_of};
+
+use crate::arguments::CommandName;
+use crate::matching::matches_in;
+use crate::reading::are_lawful;
+use clap::error::ErrorKind;
+use clap::{ArgMatches, Error};
+use std::alloc::Global;
+use wire_spec::Pad;
+
+/// What the words of the command line ask for.
+#[derive(Clone, Copy, Debug, PartialEq, Eq)]
+pub enum Command {
+    /// Reads a capture and reports its streams.
+    Replay,
+    /// Reads a capture and names its faulty entries, under a reading of padding.
+    Check { pad: Pad },
+}
+
+/// Why there is no command.
+#[derive(Clone, Copy, Debug, PartialEq, Eq)]
+pub enum WordsRefusal {
+    /// The words ask for no command.
+    Usage,
+    /// Memory was lacking.
+    Memory,
+}
+
+fn refusal_of(error: &Error) -> WordsRefusal
+    ensures { kind_of error.now ≡ ErrorKind.OutOfMemory → result ≡ WordsRefusal.Memory }
+{
+    match error.kind() {
+        ErrorKind::OutOfMemory => WordsRefusal::Memory,
+        _ => WordsRefusal::Usage,
+    }
+}
+
+// Zero where the flag is set.
+fn pad_in(matches: &ArgMatches) -> Pad
+    ensures { (given : Bool) → one_text (found_of matches.now) (codes "zero") ≡ Some (if given then codes "true" else codes "false")
+        → result ≡ (if given then Pad.Zero else Pad.Any) }
+{
+    if matches.get_flag("zero") {
+        Pad::Zero
+    } else {
+        Pad::Any
+    }
+}
+
+// The command of this name, from the words after it.
+fn read_command(alloc: Global, name: CommandName, words: &[String]) -> Result<Command, WordsRefusal>
+    ensures usage { (result ≡ Err WordsRefusal.Usage) ↔ (command_named (map string_bytes words.now) name ≡ None) }
+    ensures command { IfOk result (λ c. command_named (map string_bytes words.now) name ≡ Some c) }
+{
+    let arguments = name.arguments();
+    if !are_lawful(arguments, words) {
+        return Err(WordsRefusal::Usage);
+    }
+    match matches_in(alloc, name.word(), arguments, words) {
+        Ok(matches) => Ok(match name {
+            CommandName::Replay => Command::Replay,
+            CommandName::Check => Command::Check {
+                pad: pad_in(&matches),
+            },
+        }),
+        Err(error) => Err(refusal_of(&error)),
+    }
+}
+
+/// The command that the words after the program's name ask for. `Usage` comes exactly where they ask for none, and
+/// before any memory is taken. `Memory` may come wherever they ask for one.
+pub fn read_words(alloc: Global, words: &[String]) -> Result<Command, WordsRefusal>
+    ensures usage { (result ≡ Err WordsRefusal.Usage) ↔ (command_of (map string_bytes words.now) ≡ None) }
+    ensures command { IfOk result (λ c. command_of (map string_bytes words.now) ≡ Some c) }
+{
+    match words {
+        [first, rest @ ..] => match CommandName::named(first.as_str()) {
+            Some(name) => read_command(alloc, name, rest),
+            None => Err(WordsRefusal::Usage),
+        },
+        [] => Err(WordsRefusal::Usage),
+    }
+}

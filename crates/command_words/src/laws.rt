@@ -1,0 +1,27 @@
+// What holds of the reading of words. Each law is the contract of a function with nothing to do.
+ghost use Rattle.std.specs.Prelude.{◌≡◌, ◌↔◌, ℕ, List, Some, IsTrue};
+ghost use Rattle.command_words.specs.declared.arguments.CommandName.{CommandName};
+ghost use Rattle.command_words.specs.declared.command.Command.{Command};
+ghost use Rattle.command_words.specs.Rules.{Rule};
+ghost use Rattle.command_words.specs.Pieces.{Piece, AreLawful, Spell, are_rules};
+ghost use Rattle.command_words.specs.Reading.{lawful_pieces};
+ghost use Rattle.command_words.specs.Commands.{Asks, command_of, rules_of};
+
+/// The reading of words gives exactly the lawful pieces that spell them, and no other lawful pieces do.
+pub fn lawful_words_have_one_reading()
+    ensures read { (rules : List Rule) (words : List (List ℕ)) (pieces : List Piece) → IsTrue (are_rules rules)
+        → (lawful_pieces rules words ≡ Some pieces) ↔ (AreLawful rules pieces × Spell pieces words) }
+    ensures one { (rules : List Rule) (words : List (List ℕ)) (pieces others : List Piece) → IsTrue (are_rules rules)
+        → AreLawful rules pieces → Spell pieces words → AreLawful rules others → Spell others words
+        → pieces ≡ others }
+{}
+
+/// Words give a command exactly where they are its name and lawful pieces with its values, and they ask for one
+/// command at most.
+pub fn commands_are_spelled()
+    ensures rules { (name : CommandName) → IsTrue (are_rules (rules_of name)) }
+    ensures asks { (words : List (List ℕ)) (command : Command)
+        → (command_of words ≡ Some command) ↔ ((pieces : List Piece) × Asks words pieces command) }
+    ensures one { (words : List (List ℕ)) (pieces others : List Piece) (command other : Command)
+        → Asks words pieces command → Asks words others other → (pieces ≡ others) × (command ≡ other) }
+{}

@@ -1,0 +1,21 @@
+//! The words of the command line, and the command that they ask for.
+//!
+//! Whether words are lawful is decided by the definitions of `specs/`, before any memory is taken. Lawful words are
+//! then read by `clap`, and the values of a command come from its matches.
+#![tactic(auto)]
+
+mod arguments;
+mod command;
+mod examples;
+mod laws;
+mod matching;
+mod meaning;
+mod reading;
+
+pub use arguments::{Argument, CommandName, Form};
+pub use command::{Command, WordsRefusal, read_words};
+pub use examples::{words_of_commands, words_with_options};
+pub use laws::{commands_are_spelled, lawful_words_have_one_reading};
+
+#[cfg(test)]
+mod tests;
