@@ -237,14 +237,32 @@ fn captures_are_checked(rt: HostRuntime) -> Result<(), Fail> {
             input: &[&HEADER, &PADDED],
             ..CHECK
         },
-        Case {
-            name: "padding that isn't zero and must be",
-            words: &["check", "--zero"],
-            input: &[&HEADER, &PADDED],
-            status: Status::Found,
-            taken: "entry 1 at 37 kind pad\nchecked 1 faulty 1\n",
-            ..CHECK
-        },
+    ];
+    for case in &cases {
+        try_case(&rt, rt.alloc(), case)?;
+    }
+    Ok(())
+}
+
+#[test]
+fn zero_padding_is_asked_for(rt: HostRuntime) -> Result<(), Fail> {
+    let case = Case {
+        name: "padding that isn't zero and must be",
+        words: &["check", "--zero"],
+        input: &[&HEADER, &PADDED],
+        piece: 4096,
+        read_fails: &[],
+        most: 4096,
+        write_fails: &[],
+        status: Status::Found,
+        taken: "entry 1 at 37 kind pad\nchecked 1 faulty 1\n",
+    };
+    try_case(&rt, rt.alloc(), &case)
+}
+
+#[test]
+fn checks_that_break_off_leave_their_lines(rt: HostRuntime) -> Result<(), Fail> {
+    let cases = [
         Case {
             name: "an entry that breaks off behind a faulty one",
             input: &[&HEADER, &BEFORE_27, &DATAGRAM[..27], &[0], &BEFORE_28],
@@ -458,53 +476,43 @@ fn other_words_are_usage(rt: HostRuntime) -> Result<(), Fail> {
     Ok(())
 }
 
+fn try_status(rt: &impl std::process::Abort, status: Status, code: u8, text: &str) {
+    let line: Line = status.text();
+    assert_eq!(rt; status.code(), code);
+    assert_eq!(rt; line.as_str().as_bytes(), text.as_bytes());
+}
+
 #[test]
-fn statuses_have_codes_and_texts(rt: HostRuntime) -> Result<(), Fail> {
-    let cases = [
-        (Status::Done, 0, ""),
-        (Status::Found, 1, ""),
-        (Status::Usage, 2, "usage"),
-        (Status::ReadFault, 3, "read fault"),
-        (Status::WriteFault, 4, "write fault"),
-        (
-            bad_input(0, InputKind::Magic),
-            5,
-            "bad input at 0 kind magic",
-        ),
-        (
-            bad_input(4, InputKind::Version),
-            5,
-            "bad input at 4 kind version",
-        ),
-        (bad_input(8, InputKind::Cut), 5, "bad input at 8 kind cut"),
-        (
-            bad_input(16, InputKind::Long),
-            5,
-            "bad input at 16 kind long",
-        ),
-        (
-            bad_input(47, InputKind::Padding),
-            5,
-            "bad input at 47 kind padding",
-        ),
-        (
-            bad_input(1, InputKind::Script),
-            5,
-            "bad input at 1 kind script",
-        ),
-        (
-            bad_input(u128::MAX, InputKind::Unbuilt),
-            5,
-            "bad input at 340282366920938463463374607431768211455 kind unbuilt",
-        ),
-        (Status::Memory, 6, "out of memory"),
-        (Status::LinkFault, 7, "link fault"),
-        (Status::Spent, 8, "too many entries"),
-    ];
-    for (status, code, text) in cases {
-        let line: Line = status.text();
-        assert_eq!(rt; status.code(), code, "code of {text}");
-        assert_eq!(rt; line.as_str(), text);
-    }
-    Ok(())
+fn statuses_have_codes_and_texts(rt: HostRuntime) {
+    try_status(&rt, Status::Done, 0, "");
+    try_status(&rt, Status::Found, 1, "");
+    try_status(&rt, Status::Usage, 2, "usage");
+    try_status(&rt, Status::ReadFault, 3, "read fault");
+    try_status(&rt, Status::WriteFault, 4, "write fault");
+    try_status(&rt, Status::Memory, 6, "out of memory");
+    try_status(&rt, Status::LinkFault, 7, "link fault");
+    try_status(&rt, Status::Spent, 8, "too many entries");
+}
+
+#[test]
+fn bad_input_names_the_place(rt: HostRuntime) {
+    let magic = bad_input(0, InputKind::Magic);
+    try_status(&rt, magic, 5, "bad input at 0 kind magic");
+    let version = bad_input(4, InputKind::Version);
+    try_status(&rt, version, 5, "bad input at 4 kind version");
+    let cut = bad_input(8, InputKind::Cut);
+    try_status(&rt, cut, 5, "bad input at 8 kind cut");
+    let long = bad_input(16, InputKind::Long);
+    try_status(&rt, long, 5, "bad input at 16 kind long");
+    let padding = bad_input(47, InputKind::Padding);
+    try_status(&rt, padding, 5, "bad input at 47 kind padding");
+    let script = bad_input(1, InputKind::Script);
+    try_status(&rt, script, 5, "bad input at 1 kind script");
+    let far = bad_input(u128::MAX, InputKind::Unbuilt);
+    try_status(
+        &rt,
+        far,
+        5,
+        "bad input at 340282366920938463463374607431768211455 kind unbuilt",
+    );
 }

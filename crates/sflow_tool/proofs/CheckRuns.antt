@@ -7,7 +7,7 @@ use Rattle.wire_spec.specs.Bytes.{AreBytes}
 use Rattle.wire_spec.specs.Captures.{Entry}
 use Rattle.sflow_io.specs.Causes.{Rose}
 use Rattle.sflow_io.specs.Streams.{AppendsPrefix}
-use Rattle.sflow_tool.specs.declared.command.Command.TheVariants.{Check}
+use Rattle.command_words.specs.declared.command.Command.TheVariants.{Check}
 use Rattle.sflow_tool.specs.declared.status.Status.{Status}
 use Rattle.sflow_tool.specs.declared.status.Status.TheVariants.{Done, Found, WriteFault}
 use Rattle.sflow_tool.specs.declared.walk.Counts.{Counts}

@@ -12,8 +12,8 @@ use Rattle.wire_spec.proofs.CaptureOutcomes.{capture_bytes_are, outcome_back}
 use Rattle.wire_spec.proofs.CaptureWalks.{capture_bytes-push}
 use Rattle.std.proofs.lemmas.Bool.{cases_lt}
 use Rattle.sflow_io.specs.CaptureSteps.{FaultBehind, GoesOn}
-use Rattle.sflow_tool.specs.declared.command.Command.{Command}
-use Rattle.sflow_tool.specs.declared.command.Command.TheVariants.{Replay, Check}
+use Rattle.command_words.specs.declared.command.Command.{Command}
+use Rattle.command_words.specs.declared.command.Command.TheVariants.{Replay, Check}
 use Rattle.sflow_tool.specs.declared.status.Status.{Status}
 use Rattle.sflow_tool.specs.declared.status.Status.TheVariants.{Done, Found, Usage, ReadFault, WriteFault, BadInput, Memory, LinkFault, Spent}
 use Rattle.sflow_tool.specs.Outputs.{Breaks as OutputBreaks, faulty, unbuilt, Decides, IsRead, IsUnbuilt, Takes, finds}

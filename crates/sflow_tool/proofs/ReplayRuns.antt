@@ -9,7 +9,7 @@ use Rattle.sflow_io.specs.declared.capture.ReadRefusal.{ReadRefusal}
 use Rattle.sflow_io.specs.declared.capture.ReadRefusal.TheVariants as refusals
 use Rattle.sflow_io.specs.Causes.{Rose}
 use Rattle.sflow_io.specs.Streams.{AppendsPrefix}
-use Rattle.sflow_tool.specs.declared.command.Command.TheVariants.{Replay}
+use Rattle.command_words.specs.declared.command.Command.TheVariants.{Replay}
 use Rattle.sflow_tool.specs.declared.replay.Halt.TheVariants as halts
 use Rattle.sflow_tool.specs.declared.status.Status.{Status}
 use Rattle.sflow_tool.specs.declared.status.Status.TheVariants.{Done, WriteFault, BadInput}

@@ -10,7 +10,7 @@ use Rattle.sflow_io.specs.Causes.{Rose}
 use Rattle.sflow_io.specs.Streams.{AppendsPrefix}
 use Rattle.sflow_io.proofs.Prefixes.{prefix_after}
 use Rattle.text_lines.specs.Pages.{Puts}
-use Rattle.sflow_tool.specs.declared.command.Command.{Command}
+use Rattle.command_words.specs.declared.command.Command.{Command}
 use Rattle.sflow_tool.specs.declared.status.Status.{Status}
 use Rattle.sflow_tool.specs.declared.status.Status.TheVariants.{ReadFault, WriteFault}
 use Rattle.sflow_tool.specs.declared.walk.Stop.TheVariants as stops

@@ -7,7 +7,7 @@ use Rattle.sflow_io.specs.declared.capture.ReadRefusal.{ReadRefusal}
 use Rattle.sflow_io.specs.declared.capture.ReadRefusal.TheVariants as refusals
 use Rattle.sflow_io.specs.Causes.{Rose}
 use Rattle.sflow_io.specs.CaptureSteps.{IsAllOf, EndsAt}
-use Rattle.sflow_tool.specs.declared.command.Command.TheVariants.{Replay}
+use Rattle.command_words.specs.declared.command.Command.TheVariants.{Replay}
 use Rattle.sflow_tool.specs.declared.replay.Halt.{Halt}
 use Rattle.sflow_tool.specs.declared.replay.Halt.TheVariants as halts
 use Rattle.sflow_tool.specs.Outputs.{IsUnbuilt}

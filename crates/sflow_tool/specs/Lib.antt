@@ -1,4 +1,3 @@
-pub mod Commands
 pub mod Items
 pub mod Lines
 pub mod Faults
@@ -14,3 +13,4 @@ pub mod Runs
 pub mod Views
 pub use Rattle.sflow_io.specs.Causes
 pub use Rattle.sflow_io.specs.Streams
+pub use Rattle.command_words.specs.Commands

@@ -5,8 +5,8 @@ use Rattle.wire_spec.specs.Captures.{Entry, CaptureThen, capture_bytes}
 use Rattle.wire_spec.specs.declared.input_kind.InputKind.{InputKind}
 use Rattle.wire_spec.specs.declared.input_kind.InputKind.TheVariants.{Unbuilt}
 use Rattle.sflow_io.specs.CaptureSteps.{IsAllOf, FaultBehind, GoesOn, BeginsWithEntries}
-use Rattle.sflow_tool.specs.declared.command.Command.{Command}
-use Rattle.sflow_tool.specs.declared.command.Command.TheVariants.{Replay, Check}
+use Rattle.command_words.specs.declared.command.Command.{Command}
+use Rattle.command_words.specs.declared.command.Command.TheVariants.{Replay, Check}
 use Rattle.sflow_tool.specs.declared.status.Status.{Status}
 use Rattle.sflow_tool.specs.declared.status.Status.TheVariants.{Done, Found, ReadFault, BadInput, Spent}
 use Rattle.sflow_tool.specs.Checks.{check_lines, check_text, faulty_count}

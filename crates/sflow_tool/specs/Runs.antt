@@ -6,7 +6,7 @@ use Rattle.sflow_io.specs.Causes.{Rose}
 use Rattle.sflow_io.specs.Streams.{AppendsPrefix}
 use Rattle.wire_spec.specs.Bytes.{AreBytes}
 use Rattle.wire_spec.specs.Captures.{Entry}
-use Rattle.sflow_tool.specs.declared.command.Command.{Command}
+use Rattle.command_words.specs.declared.command.Command.{Command}
 use Rattle.sflow_tool.specs.declared.status.Status.{Status}
 use Rattle.sflow_tool.specs.declared.status.Status.TheVariants.{Done, Found, Usage, ReadFault, WriteFault, Memory, LinkFault}
 use Rattle.sflow_tool.specs.Outputs.{MayFind, Reads, TakesMemoryFirst, WritesAtTheEnd, text_at}

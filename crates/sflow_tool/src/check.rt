@@ -3,7 +3,7 @@ ghost use Rattle.std.specs.Prelude.{◌≡◌, ◌≤◌, ◌++◌, [], length, 
 ghost use Rattle.sflow_io.specs.Causes.{HasCause};
 ghost use Rattle.sflow_io.specs.declared.capture.Stage.TheVariants.{Start};
 ghost use Rattle.text_lines.specs.Pages.{Prints};
-ghost use Rattle.sflow_tool.specs.declared.command.Command.TheVariants as commands;
+ghost use Rattle.command_words.specs.declared.command.Command.TheVariants as commands;
 ghost use Rattle.sflow_tool.specs.Checks.{check_line, checked_line, is_faulty, check_status};
 ghost use Rattle.sflow_tool.specs.Endings.{Flushed};
 ghost use Rattle.sflow_tool.specs.Runs.{Runs};

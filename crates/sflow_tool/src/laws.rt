@@ -9,7 +9,7 @@ ghost use Rattle.wire_spec.specs.Whole.{FailsWhole, SpellsWhole};
 ghost use Rattle.datagram_core.specs.Tables.{datagram_read};
 ghost use Rattle.sflow_tool.specs.Items.{item_of, malformed, sound};
 ghost use Rattle.sflow_tool.specs.Outputs.{Decides};
-ghost use Rattle.sflow_tool.specs.declared.command.Command.{Command};
+ghost use Rattle.command_words.specs.declared.command.Command.{Command};
 ghost use Rattle.sflow_tool.specs.declared.status.Status.{Status};
 
 /// An input makes a run of a command end in one way at most, if no call fails and memory is there.

@@ -2,7 +2,6 @@
 #![tactic(auto)]
 
 mod check;
-mod command;
 mod ending;
 mod faults;
 mod item;
@@ -14,7 +13,7 @@ mod tally;
 mod top;
 mod walk;
 
-pub use command::Command;
+pub use command_words::Command;
 pub use laws::{items_are_exact, one_ending};
 pub use sflow_io::{Failed, InputSource, MemorySink, MemorySource, OutputSink, Sink, Source};
 pub use status::{Line, Status};

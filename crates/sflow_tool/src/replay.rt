@@ -2,7 +2,7 @@
 ghost use Rattle.std.specs.Prelude.{◌≡◌, ◌≤◌, [], ℕ, List, Some, length};
 ghost use Rattle.wire_spec.specs.Bytes.{AreBytes};
 ghost use Rattle.sflow_io.specs.declared.capture.Stage.TheVariants.{Start};
-ghost use Rattle.sflow_tool.specs.declared.command.Command.TheVariants as commands;
+ghost use Rattle.command_words.specs.declared.command.Command.TheVariants as commands;
 ghost use Rattle.sflow_tool.specs.Collects.{Collected, CollectsToTheEnd, HasReadCause};
 ghost use Rattle.sflow_tool.specs.Tallies.{nothing};
 ghost use Rattle.sflow_tool.specs.Runs.{Runs};

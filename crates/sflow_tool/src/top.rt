@@ -1,16 +1,16 @@
 ghost use Rattle.std.specs.Prelude.{◌≡◌, ◌⊎◌, ◌↔◌, ℕ, List, None, Some, map, string_bytes};
 ghost use Rattle.sflow_io.specs.Causes.{Rose};
 ghost use Rattle.wire_spec.specs.Bytes.{AreBytes};
-ghost use Rattle.sflow_tool.specs.Commands.{command_of};
+ghost use Rattle.command_words.specs.Commands.{command_of};
 ghost use Rattle.sflow_tool.specs.Outputs.{Decides};
 ghost use Rattle.sflow_tool.specs.Runs.{Runs};
-ghost use Rattle.sflow_tool.specs.declared.command.Command.{Command};
+ghost use Rattle.command_words.specs.declared.command.Command.{Command};
 ghost use Rattle.sflow_tool.specs.declared.status.Status.{Status as Ending};
 
 use crate::Status;
 use crate::check::check;
-use crate::command::{self, read_words};
 use crate::replay::replay;
+use command_words::{Command as Asked, WordsRefusal, read_words};
 use sflow_io::{Sink, Source};
 use std::alloc::Global;
 
@@ -42,9 +42,10 @@ pub fn run<S: Source, K: Sink>(
         → ¬ Rose (S.faults source.old) (S.faults source.new) → ¬ Rose (K.faults sink.old) (K.faults sink.new)
         → (result ≡ ending) ⊎ (result ≡ Status.Memory) }
 {
-    match read_words(words) {
-        None => Status::Usage,
-        Some(command::Command::Replay) => replay(alloc, source, sink),
-        Some(command::Command::Check { pad }) => check(alloc, pad, source, sink),
+    match read_words(alloc, words) {
+        Ok(Asked::Replay) => replay(alloc, source, sink),
+        Ok(Asked::Check { pad }) => check(alloc, pad, source, sink),
+        Err(WordsRefusal::Usage) => Status::Usage,
+        Err(WordsRefusal::Memory) => Status::Memory,
     }
 }

@@ -1,5 +1,5 @@
 use Rattle.std.proofs.Common.{refl}
-use Rattle.sflow_tool.specs.declared.command.Command.TheVariants.{Check}
+use Rattle.command_words.specs.declared.command.Command.TheVariants.{Check}
 use Rattle.sflow_tool.specs.Checks.{check_line}
 use Rattle.sflow_tool.proofs.CheckRuns.{end_ends}
 use Rattle.sflow_tool.proofs.WriterRuns.{refusal_ends, write_failed}
