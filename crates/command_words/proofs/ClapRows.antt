@@ -1,6 +1,6 @@
 -- The rows that pieces leave in clap's matches.
-use Rattle.std.proofs.Common.{◌≡◌, ◌∙◌, ◌≤◌, ◌+◌, ℕ, Bool, true, false, ◌||◌, if◌then◌else◌, List, [], ◌∷◌, ◌++◌, Option, Some, None, map, refl, ap, ap₂, sym, fold, arith, codes}
-use Rattle.std.specs.Prelude.{find}
+use Rattle.std.proofs.Common.{◌≡◌, ◌∙◌, ◌≤◌, ◌+◌, ℕ, Bool, true, false, not, ◌||◌, if◌then◌else◌, List, [], ◌∷◌, ◌++◌, Option, Some, None, map, refl, ap, ap₂, sym, fold, arith, codes}
+use Rattle.std.specs.Prelude.{find, is_some, option_map}
 use Rattle.std.specs.Option.{option_or}
 use Rattle.std.specs.Str.{bytes_eq}
 use Rattle.std.proofs.lemmas.List.{append-nil}
@@ -11,9 +11,9 @@ use Rattle.clap.specs.Walk.{Row, at_row, default_rows, has_row, more_values, rea
 use Rattle.clap.specs.declared.parser.matches.ValueSource.TheVariants.{CommandLine, DefaultValue}
 use Rattle.command_words.specs.declared.arguments.Form.{Form}
 use Rattle.command_words.specs.declared.arguments.Form.TheVariants.{Flag, Optional, Required}
-use Rattle.command_words.specs.Rules.{Text, Rule, form_named}
-use Rattle.command_words.specs.Pieces.{Piece, joined, apart, alone, name_in, count_of}
-use Rattle.command_words.proofs.Spelled.{find_cases}
+use Rattle.command_words.specs.Rules.{Text, Rule, form_named, has_text}
+use Rattle.command_words.specs.Pieces.{Piece, joined, apart, alone, name_in, count_of, is_name, are_rules}
+use Rattle.command_words.proofs.Spelled.{both, find_cases}
 use Rattle.command_words.proofs.ClapRules.{built_rule, option_rule, flag_rule}
 
 -- ---- rows by their ids
@@ -166,6 +166,49 @@ absent_flag name (rule ∷ rules) rows none found = find_cases (bytes_eq rule.na
     let grows = grown rows rule in
     absent_flag name rules (with_default rows (built_rule rule))
     (ap (row_named name) grows.same ∙ find-append (λ r. bytes_eq r.id name) rows grows.more ∙ ap₂ option_or none (grows.named name e)) further)
+
+-- an option has no default
+same_rows : (b : Bool) (rows : List Row) → (if b then rows else rows) ≡ rows
+same_rows true rows = refl
+same_rows false rows = refl
+
+option_default : (rows : List Row) (name : Text) (form : Form) → has_text form ≡ true → with_default rows (built_rule (record { name = name; form = form })) ≡ rows
+option_default rows name Flag text = cc
+option_default rows name Optional text = same_rows (has_row name rows) rows
+option_default rows name Required text = same_rows (has_row name rows) rows
+
+missing_cases : (b : Bool) (rule : Rule) (rest : Option Rule) → option_map (λ r. r.form) (if b then Some rule else rest) ≡ None
+    → (b ≡ false) × (option_map (λ r. r.form) rest ≡ None)
+missing_cases true rule rest e = cc
+missing_cases false rule rest e = (refl, e)
+
+still_none : (name : Text) (rows : List Row) (rule : Rule) → row_named name rows ≡ None → bytes_eq rule.name name ≡ false
+    → row_named name (with_default rows (built_rule rule)) ≡ None
+still_none name rows rule none other =
+    let grows = grown rows rule in
+    ap (row_named name) grows.same ∙ find-append (λ r. bytes_eq r.id name) rows grows.more ∙ ap₂ option_or none (grows.named name other)
+
+no_default : (name : Text) (rules : List Rule) (rows : List Row) → row_named name rows ≡ None → form_named rules name ≡ None
+    → row_named name (fold with_default rows (map built_rule rules)) ≡ None
+no_default name [] rows none missing = none
+no_default name (rule ∷ rules) rows none missing =
+    let other = missing_cases (bytes_eq rule.name name) rule _ missing in
+    no_default name rules (with_default rows (built_rule rule)) (still_none name rows rule none other.0) other.1
+
+is_none : (o : Option Form) → not (is_some o) ≡ true → o ≡ None
+is_none None e = refl
+is_none (Some form) e = cc
+
+-- an option that isn't there has no row
+pub absent_option : (name : Text) (rules : List Rule) (rows : List Row) (form : Form) → has_text form ≡ true → are_rules rules ≡ true → row_named name rows ≡ None
+    → form_named rules name ≡ Some form → row_named name (fold with_default rows (map built_rule rules)) ≡ None
+absent_option name [] rows form text fine none found = cc
+absent_option name (rule ∷ rules) rows form text fine none found = find_cases (bytes_eq rule.name name) rule _ form found
+    (λ e same.
+    let alone : form_named rules rule.name ≡ None = is_none (form_named rules rule.name) (both (is_name rule.name) _ (both _ _ fine).0).1 in
+    ap (λ rs. row_named name (fold with_default rs (map built_rule rules))) (option_default rows rule.name rule.form (ap has_text same ∙ text))
+    ∙ no_default name rules rows none (ap (form_named rules) (sym ((bytes_eq-Decides rule.name name).0 e)) ∙ alone))
+    (λ e further. absent_option name rules (with_default rows (built_rule rule)) form text (both _ _ fine).1 (still_none name rows rule none e) further)
 
 -- ---- the rows of lawful pieces
 

@@ -1,28 +1,28 @@
 -- Lawful words are taken by clap, and its matches are the rows of their pieces and of the defaults.
 use Rattle.std.proofs.Common.{◌≡◌, ◌∙◌, ◌≤◌, ◌+◌, ℕ, Bool, true, false, not, ◌&&◌, ◌||◌, if◌then◌else◌, List, [], ◌∷◌, Option, Some, None, map, refl, ap, ap₂, sym, subst, fold, arith, codes, nat_lt}
-use Rattle.std.specs.Prelude.{is_some, option_and_then}
+use Rattle.std.specs.Prelude.{is_some, option_and_then, slice_get}
 use Rattle.std.specs.Option.{option_map_or}
 use Rattle.std.specs.List.{list_all}
 use Rattle.std.specs.Str.{bytes_eq}
 use Rattle.std.proofs.lemmas.Bool.Decides.{nat_tests}
 use Rattle.std.proofs.lemmas.Slice.Eq.{bytes_eq-Decides}
-use Rattle.clap.specs.Words.{App, Rule as ClapRule, HasMatchesOf, found_of, matches_of, one_text, rows_of, takes}
+use Rattle.clap.specs.Words.{App, Rule as ClapRule, HasMatchesOf, first_value, found_of, matches_of, one_text, rows_of, takes}
 use Rattle.clap.specs.declared.parser.matches.ArgMatches.{ArgMatches}
-use Rattle.clap.proofs.WalkLemmas.{one_text-rows}
+use Rattle.clap.proofs.WalkLemmas.{first_value-rows, one_text-rows}
 use Rattle.clap.specs.Facts.{explicit_source}
-use Rattle.clap.specs.Walk.{Row, Walk, finished, nothing_held, one_of, row_text, walked, walk_from, with_default}
+use Rattle.clap.specs.Walk.{Row, Walk, finished, first_of, nothing_held, one_of, row_text, walked, walk_from, with_default}
 use Rattle.clap.specs.Takes.{built_takes, default_passes, entered_passes, is_given, is_valid, settle_passes}
 use Rattle.clap.specs.Simple.{entered, is_simple}
 use Rattle.command_words.specs.declared.arguments.Form.{Form}
 use Rattle.command_words.specs.declared.arguments.Form.TheVariants.{Flag, Optional, Required}
 use Rattle.command_words.specs.Rules.{Text, Rule, form_named, has_option, has_flag, has_text, is_flag, is_required}
-use Rattle.command_words.specs.Pieces.{Piece, joined, apart, alone, spelling, name_in, count_of, flag_text, is_piece_of, are_rules, AreLawful}
+use Rattle.command_words.specs.Pieces.{Piece, joined, apart, alone, spelling, name_in, count_of, flag_text, text_in, text_of, is_piece_of, are_rules, AreLawful}
 use Rattle.command_words.specs.Reading.{is_count, is_counted, lawful_pieces}
 use Rattle.command_words.specs.Matching.{app_with}
 use Rattle.command_words.proofs.Spelled.{both, has_form}
 use Rattle.command_words.proofs.LawfulReading.{all_counted, read_lawful, count_at_least}
 use Rattle.command_words.proofs.ClapRules.{built_rule, built_rules, each_rule, simple_app}
-use Rattle.command_words.proofs.ClapRows.{row_named, piece_row, defaults_keep, absent_flag, missing_row, given_row}
+use Rattle.command_words.proofs.ClapRows.{row_named, piece_row, defaults_keep, absent_flag, absent_option, missing_row, given_row}
 use Rattle.command_words.proofs.ClapWalk.{shape_with, IsTaken, pieces_taken}
 
 -- the rows at the end
@@ -167,6 +167,45 @@ flag_read rules name pieces flag known = go (nat_lt 0 (count_of name pieces)) re
         ap (option_and_then row_text)
         (absent_flag name rules (map piece_row pieces) (missing_row name pieces none) (form.1 ∙ ap (λ f. Some f) (is_flag_form form.0 form.2)))
 
+-- ---- options
+
+abbrev first_text : Option Row → Option Text
+first_text row = option_and_then (λ (r : Row). slice_get r.values 0) row
+
+-- a piece of an option's name has a text
+option_piece : (rules : List Rule) (name : Text) (piece : Piece) → has_option rules name ≡ true → is_piece_of rules piece ≡ true → name_in piece ≡ name
+    → first_text (Some (piece_row piece)) ≡ text_in piece
+option_piece rules name (joined n text) option known named = refl
+option_piece rules name (apart n text) option known named = refl
+option_piece rules name (alone n) option known named =
+    absurd (flag_or_option (form_named rules name) (subst (λ m. has_flag rules m ≡ true) named known) option)
+
+text_here : (rules : List Rule) (name : Text) (piece : Piece) (b : Bool) (found : Option Row) (text : Option Text) → bytes_eq (name_in piece) name ≡ b
+    → has_option rules name ≡ true → is_piece_of rules piece ≡ true → first_text found ≡ text
+    → first_text (if b then Some (piece_row piece) else found) ≡ (if b then text_in piece else text)
+text_here rules name piece true found text is option known rest = option_piece rules name piece option known ((bytes_eq-Decides (name_in piece) name).0 is)
+text_here rules name piece false found text is option known rest = rest
+
+text_row : (rules : List Rule) (name : Text) (pieces : List Piece) → has_option rules name ≡ true → list_all (is_piece_of rules) pieces ≡ true
+    → first_text (row_named name (map piece_row pieces)) ≡ text_of name pieces
+text_row rules name [] option known = refl
+text_row rules name (piece ∷ pieces) option known =
+    let parts = both (is_piece_of rules piece) _ known in
+    text_here rules name piece (bytes_eq (name_in piece) name) (row_named name (map piece_row pieces)) (text_of name pieces) refl option parts.0
+    (text_row rules name pieces option parts.1)
+
+-- an option's first value in the matches is its text
+pub option_read : (rules : List Rule) (name : Text) (pieces : List Piece) → are_rules rules ≡ true → has_option rules name ≡ true
+    → list_all (is_piece_of rules) pieces ≡ true → first_of name (rows_of_pieces rules pieces) ≡ text_of name pieces
+option_read rules name pieces fine option known = go (row_named name (map piece_row pieces)) refl
+  where
+    go : (o : Option Row) → row_named name (map piece_row pieces) ≡ o → first_of name (rows_of_pieces rules pieces) ≡ text_of name pieces
+    go None is =
+        let form = has_form (form_named rules name) has_text option in
+        ap first_text (absent_option name rules (map piece_row pieces) form.0 form.2 fine is form.1 ∙ sym is) ∙ text_row rules name pieces option known
+    go (Some row) is =
+        ap first_text (defaults_keep name row rules (map piece_row pieces) is ∙ sym is) ∙ text_row rules name pieces option known
+
 -- ---- words
 
 -- lawful words are taken
@@ -180,13 +219,21 @@ lawful_taken command rules words fine some = go (lawful_pieces rules words) refl
         let read = read_lawful rules words pieces is in
         subst (λ ws. takes (app_with command rules) ws ≡ true) read.1 (pieces_pass command rules pieces fine read.0)
 
--- what the matches of lawful words have under a flag's name
-pub lawful_flag : (command : Text) (rules : List Rule) (words : List Text) (app : App) (matches : ArgMatches) → app ≡ app_with command rules
-    → HasMatchesOf app words matches → (flag : Text) (pieces : List Piece) → are_rules rules ≡ true → has_flag rules flag ≡ true
-    → lawful_pieces rules words ≡ Some pieces → one_text (found_of matches) flag ≡ Some (flag_text flag pieces)
-lawful_flag command rules words app matches same has flag pieces fine there lawful =
-    let read = read_lawful rules words pieces lawful in
-    let rows : rows_of (found_of matches) ≡ rows_of_pieces rules pieces =
-    (has (ap is_simple same ∙ simple_app command rules)).0
-    ∙ ap₂ matches_of same (sym read.1) ∙ pieces_match command rules pieces fine read.0 in
-    one_text-rows (found_of matches) flag ∙ ap (one_of flag) rows ∙ flag_read rules flag pieces there read.0.known
+-- the matches of lawful words
+module _ (command : Text) (rules : List Rule) (words : List Text) (app : App) (matches : ArgMatches) (same : app ≡ app_with command rules)
+    (has : HasMatchesOf app words matches) (fine : are_rules rules ≡ true) (pieces : List Piece) (lawful : lawful_pieces rules words ≡ Some pieces) where
+  abbrev read : AreLawful rules pieces × (spelling pieces ≡ words)
+  read = read_lawful rules words pieces lawful
+
+  matched_rows : rows_of (found_of matches) ≡ rows_of_pieces rules pieces
+  matched_rows =
+      (has (ap is_simple same ∙ simple_app command rules)).0 ∙ ap₂ matches_of same (sym read.1) ∙ pieces_match command rules pieces fine read.0
+
+  -- what they have under a flag's name, and under an option's
+  pub lawful_flag : (flag : Text) → has_flag rules flag ≡ true → one_text (found_of matches) flag ≡ Some (flag_text flag pieces)
+  lawful_flag flag there =
+      one_text-rows (found_of matches) flag ∙ ap (one_of flag) matched_rows ∙ flag_read rules flag pieces there read.0.known
+
+  pub lawful_option : (name : Text) → has_option rules name ≡ true → first_value (found_of matches) name ≡ text_of name pieces
+  lawful_option name there =
+      first_value-rows (found_of matches) name ∙ ap (first_of name) matched_rows ∙ option_read rules name pieces fine there read.0.known

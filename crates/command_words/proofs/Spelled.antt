@@ -61,7 +61,7 @@ find_cases false rule rest form found here there = there refl found
 pub found_name : (rules : List Rule) (name : Text) (form : Form) → are_rules rules ≡ true → form_named rules name ≡ Some form → IsName name
 found_name [] name form fine found = cc
 found_name (rule ∷ rules) name form fine found = find_cases (bytes_eq rule.name name) rule _ form found
-    (λ e _. subst IsName ((bytes_eq-Decides rule.name name).0 e) (name_of_test rule.name (both _ _ fine).0))
+    (λ e _. subst IsName ((bytes_eq-Decides rule.name name).0 e) (name_of_test rule.name (both _ _ (both _ _ fine).0).0))
     (λ _ further. found_name rules name form (both _ _ fine).1 further)
 
 pub has_form : (o : Option Form) (test : Form → Bool) → option_map_or test o false ≡ true → (form : Form) × (o ≡ Some form) × (test form ≡ true)

@@ -1,8 +1,8 @@
 -- The pieces that the words after a command's name are made of, and which of them are lawful.
-use Rattle.std.specs.Prelude.{◌≡◌, ◌≤◌, ℕ, ◌==◌, ◌&&◌, Bool, false, not, List, [], ◌∷◌, ◌++◌, IsTrue, Contains, ◌+◌, if◌then◌else◌, nat_lt, codes}
+use Rattle.std.specs.Prelude.{◌≡◌, ◌≤◌, ℕ, ◌==◌, ◌&&◌, Bool, true, false, not, is_some, Option, Some, None, List, [], ◌∷◌, ◌++◌, IsTrue, Contains, ◌+◌, if◌then◌else◌, nat_lt, codes}
 use Rattle.std.specs.List.{list_all, list_any, flat_map}
 use Rattle.std.specs.Str.{bytes_eq}
-use Rattle.command_words.specs.Rules.{Text, Rule, has_option, has_flag, is_required}
+use Rattle.command_words.specs.Rules.{Text, Rule, form_named, has_option, has_flag, is_required}
 
 -- `--name=TEXT`, `--name` `TEXT`, and `--name` alone
 pub data Piece : Type 0 where
@@ -44,6 +44,16 @@ abbrev pub count_of : Text → List Piece → ℕ
 count_of name [] = 0
 count_of name (piece ∷ pieces) = (if bytes_eq (name_in piece) name then 1 else 0) + count_of name pieces
 
+-- the text of a piece, and of the first piece of a name
+abbrev pub text_in : Piece → Option Text
+text_in (joined name text) = Some text
+text_in (apart name text) = Some text
+text_in (alone name) = None
+
+abbrev pub text_of : Text → List Piece → Option Text
+text_of name [] = None
+text_of name (piece ∷ pieces) = if bytes_eq (name_in piece) name then text_in piece else text_of name pieces
+
 -- a flag as a text: `true` where it stands, else `false`
 abbrev pub flag_text : Text → List Piece → Text
 flag_text name pieces = if nat_lt 0 (count_of name pieces) then codes "true" else codes "false"
@@ -59,6 +69,7 @@ abbrev pub is_name : Text → Bool
 is_name [] = false
 is_name (first ∷ more) = not (list_any (λ b. b == 61) (first ∷ more))
 
--- rules that words can be read by
+-- rules that words can be read by: each has a name, and no two have the same
 abbrev pub are_rules : List Rule → Bool
-are_rules rules = list_all (λ rule. is_name rule.name) rules
+are_rules [] = true
+are_rules (rule ∷ rules) = (is_name rule.name && not (is_some (form_named rules rule.name))) && are_rules rules

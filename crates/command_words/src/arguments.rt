@@ -1,4 +1,4 @@
-ghost use Rattle.std.specs.Prelude.{◌≡◌, map};
+ghost use Rattle.std.specs.Prelude.{◌≡◌};
 ghost use Rattle.command_words.specs.Arguments.{rules_in};
 ghost use Rattle.command_words.specs.Commands.{name_of, rules_of, word_of};
 
@@ -15,7 +15,7 @@ pub enum Form {
 
 /// An option or a flag of a command.
 #[derive(Clone, Copy, Debug)]
-pub struct Argument {
+pub(crate) struct Argument {
     /// Its name, without the two hyphens before it.
     pub name: &'static str,
     pub form: Form,

@@ -12,7 +12,7 @@ mod matching;
 mod meaning;
 mod reading;
 
-pub use arguments::{Argument, CommandName, Form};
+pub use arguments::{CommandName, Form};
 pub use command::{Command, WordsRefusal, read_words};
 pub use examples::{words_of_commands, words_with_options};
 pub use laws::{commands_are_spelled, lawful_words_have_one_reading};

@@ -1,11 +1,11 @@
 // Lawful words, as `clap` reads them.
 ghost use Rattle.std.specs.Prelude.{◌≡◌, ℕ, List, Some, IfOk, IfErr, IsTrue, false, is_some, map, string_bytes};
-ghost use Rattle.clap.specs.Words.{app_of, found_of, kind_of, one_text, rule_of};
+ghost use Rattle.clap.specs.Words.{app_of, first_value, found_of, kind_of, one_text, rule_of};
 ghost use Rattle.command_words.specs.Arguments.{rule_in, rules_in};
 ghost use Rattle.command_words.specs.Matching.{app_with, clap_rule};
-ghost use Rattle.command_words.specs.Pieces.{Piece, are_rules, flag_text};
+ghost use Rattle.command_words.specs.Pieces.{Piece, are_rules, flag_text, text_of};
 ghost use Rattle.command_words.specs.Reading.{lawful_pieces};
-ghost use Rattle.command_words.specs.Rules.{has_flag};
+ghost use Rattle.command_words.specs.Rules.{has_flag, has_option};
 
 use crate::arguments::{Argument, Form};
 use clap::error::ErrorKind;
@@ -24,7 +24,7 @@ fn arg_of(alloc: Global, argument: &Argument) -> Arg<'static>
     }
 }
 
-fn command_of<'a>(
+fn clap_command<'a>(
     alloc: Global,
     name: &'a str,
     arguments: &[Argument],
@@ -55,6 +55,10 @@ pub(crate) fn matches_in<'a>(
         → IsTrue (has_flag (rules_in arguments.now) flag)
         → lawful_pieces (rules_in arguments.now) (map string_bytes words.entry.now) ≡ Some pieces
         → one_text (found_of matches) flag ≡ Some (flag_text flag pieces)) }
+    ensures options { IfOk result (λ matches. (option : List ℕ) (pieces : List Piece)
+        → IsTrue (has_option (rules_in arguments.now) option)
+        → lawful_pieces (rules_in arguments.now) (map string_bytes words.entry.now) ≡ Some pieces
+        → first_value (found_of matches) option ≡ text_of option pieces) }
 {
-    command_of(alloc, name, arguments)?.try_get_matches_from(words)
+    clap_command(alloc, name, arguments)?.try_get_matches_from(words)
 }

@@ -1,7 +1,7 @@
 use Rattle.std.proofs.Common.{◌∙◌, ap₂, arith}
 use Rattle.clap.specs.Words.{with_rule}
 use Rattle.command_words.proofs.ClapRules.{app_with-next}
-use Rattle.command_words.proofs.matching.command_of.Goals as goal
+use Rattle.command_words.proofs.matching.clap_command.Goals as goal
 
 pub loop-argument-preserved : goal.loop-argument-preserved
 loop-argument-preserved c =
