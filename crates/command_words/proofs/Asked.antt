@@ -10,7 +10,8 @@ use Rattle.command_words.specs.Pieces.{Piece}
 use Rattle.command_words.specs.Reading.{lawful_pieces}
 use Rattle.command_words.specs.Commands.{command_named, command_with, pad_of, rules_of}
 
-replay_named : (words : List Text) → true ≡ is_some (lawful_pieces (rules_of name.Replay) words) → command_named words name.Replay ≡ Some Replay
+replay_named : (words : List Text) → true ≡ is_some (lawful_pieces (rules_of name.Replay) words)
+    → command_named words name.Replay ≡ Some Replay
 replay_named words some = go (lawful_pieces (rules_of name.Replay) words) some
   where
     go : (o : Option (List Piece)) → true ≡ is_some o → option_and_then (command_with name.Replay) o ≡ Some Replay
@@ -22,7 +23,8 @@ check_named : (words : List Text) (pad : Pad) → true ≡ is_some (lawful_piece
     → command_named words name.Check ≡ Some (Check pad)
 check_named words pad some is = go (lawful_pieces (rules_of name.Check) words) refl some
   where
-    go : (o : Option (List Piece)) → lawful_pieces (rules_of name.Check) words ≡ o → true ≡ is_some o → option_and_then (command_with name.Check) o ≡ Some (Check pad)
+    go : (o : Option (List Piece)) → lawful_pieces (rules_of name.Check) words ≡ o → true ≡ is_some o
+        → option_and_then (command_with name.Check) o ≡ Some (Check pad)
     go None same some = cc
     go (Some pieces) same some = ap (λ p. Some (Check p)) (sym (is pieces same))
 
@@ -30,7 +32,8 @@ module _ (command : CommandName) (words : List Text) (rules : List Rule) (same :
     (lawful : true ≡ is_some (lawful_pieces rules words)) where
   pub replay_asked : command ≡ name.Replay → command_named words command ≡ Some Replay
   replay_asked is =
-      ap (command_named words) is ∙ replay_named words (lawful ∙ ap (λ rs. is_some (lawful_pieces rs words)) (same ∙ ap rules_of is))
+      ap (command_named words) is
+      ∙ replay_named words (lawful ∙ ap (λ rs. is_some (lawful_pieces rs words)) (same ∙ ap rules_of is))
 
   pub check_asked : (pad : Pad) → command ≡ name.Check
       → ((pieces : List Piece) → has_flag rules (codes "zero") ≡ true → lawful_pieces rules words ≡ Some pieces → pad ≡ pad_of pieces)

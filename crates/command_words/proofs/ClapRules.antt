@@ -21,7 +21,8 @@ map_push : {X Y : Type 0} (f : X → Y) (xs : List X) (x : X) → map f (xs ++ x
 map_push f [] x = refl
 map_push f (y ∷ ys) x = ap (λ zs. f y ∷ zs) (map_push f ys x)
 
-take_next : {X : Type 0} (xs : List X) (i : ℕ) (d : X) → i < length xs → take i xs ++ get_or xs i d ∷ [] ≡ take (i + 1) xs
+take_next : {X : Type 0} (xs : List X) (i : ℕ) (d : X) → i < length xs
+    → take i xs ++ get_or xs i d ∷ [] ≡ take (i + 1) xs
 take_next xs i d lt = grind (arith, common_steps)
 
 pub app_with-push : (name : Text) (rules : List Rule) (rule : Rule)
@@ -62,15 +63,18 @@ module _ (name : Text) where
   found_rule : (b : Bool) (rule : Rule) (rest : Option Rule) (more : Option ClapRule) → (b ≡ true → rule.name ≡ name)
       → more ≡ option_map built_rule (option_map (λ r. record { name = name; form = r.form }) rest)
       → (if b then Some (built_rule rule) else more) ≡ option_map built_rule (option_map (λ r. record { name = name; form = r.form }) (if b then Some rule else rest))
-  found_rule true rule rest more is same = ap (λ (n : Text). Some (built_rule (record { name = n; form = rule.form }))) (is refl)
+  found_rule true rule rest more is same =
+      ap (λ (n : Text). Some (built_rule (record { name = n; form = rule.form }))) (is refl)
   found_rule false rule rest more is same = same
 
   abbrev found_in : List Rule → Option ClapRule
-  found_in rules = option_map built_rule (option_map (λ (r : Rule). record { name = name; form = r.form }) (find (λ r. bytes_eq r.name name) rules))
+  found_in rules =
+      option_map built_rule (option_map (λ (r : Rule). record { name = name; form = r.form }) (find (λ r. bytes_eq r.name name) rules))
 
   by_id : (rules : List Rule) → arg_by_id (map built_rule rules) name ≡ found_in rules
   by_id [] = refl
-  by_id (rule ∷ rules) = found_rule (bytes_eq rule.name name) rule _ _ ((bytes_eq-Decides rule.name name).0) (by_id rules)
+  by_id (rule ∷ rules) =
+      found_rule (bytes_eq rule.name name) rule _ _ ((bytes_eq-Decides rule.name name).0) (by_id rules)
 
   by_long : (rules : List Rule) → arg_by_long (map built_rule rules) name ≡ found_in rules
   by_long [] = refl
@@ -88,7 +92,8 @@ module _ (name : Text) where
   option_found None e = cc
   option_found (Some rule) e = go rule.form e
     where
-      go : (form : Form) → has_text form ≡ true → (needed : Bool) × (Some (built_rule (record { name = name; form = form })) ≡ Some (option_rule name needed))
+      go : (form : Form) → has_text form ≡ true
+          → (needed : Bool) × (Some (built_rule (record { name = name; form = form })) ≡ Some (option_rule name needed))
       go Flag e = cc
       go Optional e = (false, refl)
       go Required e = (true, refl)
@@ -98,26 +103,31 @@ module _ (name : Text) where
   flag_found None e = cc
   flag_found (Some rule) e = go rule.form e
     where
-      go : (form : Form) → is_flag form ≡ true → Some (built_rule (record { name = name; form = form })) ≡ Some (flag_rule name)
+      go : (form : Form) → is_flag form ≡ true
+          → Some (built_rule (record { name = name; form = form })) ≡ Some (flag_rule name)
       go Flag e = refl
       go Optional e = cc
       go Required e = cc
 
-  pub is_option : (rules : List Rule) → has_option rules name ≡ true → (needed : Bool) × IsOption (map built_rule rules) needed
+  pub is_option : (rules : List Rule) → has_option rules name ≡ true
+      → (needed : Bool) × IsOption (map built_rule rules) needed
   is_option rules has =
       let found = option_found (find (λ r. bytes_eq r.name name) rules) has in
       (found.0, record { long = by_long rules ∙ found.1; id = by_id rules ∙ found.1 })
 
-  pub is_flag_rule : (rules : List Rule) → has_flag rules name ≡ true → arg_by_long (map built_rule rules) name ≡ Some (flag_rule name)
+  pub is_flag_rule : (rules : List Rule) → has_flag rules name ≡ true
+      → arg_by_long (map built_rule rules) name ≡ Some (flag_rule name)
   is_flag_rule rules has = by_long rules ∙ flag_found (find (λ r. bytes_eq r.name name) rules) has
 
 -- ---- the command is simple
 
-pub each_rule : {X : Type 0} (p : ClapRule → Bool) (f : X → ClapRule) → ((x : X) → p (f x) ≡ true) → (xs : List X) → list_all p (map f xs) ≡ true
+pub each_rule : {X : Type 0} (p : ClapRule → Bool) (f : X → ClapRule) → ((x : X) → p (f x) ≡ true) → (xs : List X)
+    → list_all p (map f xs) ≡ true
 each_rule p f each [] = refl
 each_rule p f each (x ∷ xs) = ap₂ (λ a b. a && b) (each x) (each_rule p f each xs)
 
-no_rule : {X : Type 0} (p : ClapRule → Bool) (f : X → ClapRule) → ((x : X) → p (f x) ≡ false) → (xs : List X) → list_any p (map f xs) ≡ false
+no_rule : {X : Type 0} (p : ClapRule → Bool) (f : X → ClapRule) → ((x : X) → p (f x) ≡ false) → (xs : List X)
+    → list_any p (map f xs) ≡ false
 no_rule p f none [] = refl
 no_rule p f none (x ∷ xs) = ap₂ (λ a b. a || b) (none x) (no_rule p f none xs)
 

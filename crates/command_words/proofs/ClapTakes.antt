@@ -34,12 +34,14 @@ rows_of_pieces rules pieces = fold with_default (map piece_row pieces) (map buil
 explicit_row : (piece : Piece) → explicit_source (piece_row piece).source ≡ true
 explicit_row piece = refl
 
-is_there : (rules : List Rule) (pieces : List Piece) (name : Text) → 1 ≤ count_of name pieces → is_given name (rows_of_pieces rules pieces) ≡ true
+is_there : (rules : List Rule) (pieces : List Piece) (name : Text) → 1 ≤ count_of name pieces
+    → is_given name (rows_of_pieces rules pieces) ≡ true
 is_there rules pieces name some =
     let row = given_row name pieces some in
     ap (λ o. option_map_or (λ (r : Row). explicit_source r.source) o false) (defaults_keep name (piece_row row.0) rules (map piece_row pieces) row.1)
 
-needed_there : (form : Form) (n : ℕ) (there : Bool) → is_count form n ≡ true → (1 ≤ n → there ≡ true) → (not (is_required form) || there) ≡ true
+needed_there : (form : Form) (n : ℕ) (there : Bool) → is_count form n ≡ true → (1 ≤ n → there ≡ true)
+    → (not (is_required form) || there) ≡ true
 needed_there Flag n there counts some = refl
 needed_there Optional n there counts some = refl
 needed_there Required n there counts some = some (count_at_least Required n counts refl)
@@ -81,7 +83,8 @@ module _ (command : Text) (rules : List Rule) (pieces : List Piece) (fine : are_
   counts = all_counted rules pieces lawful.once lawful.required
 
   taken : IsTaken command c nothing_held (spelling pieces) pieces
-  taken = pieces_taken command rules fine pieces lawful.known nothing_held refl (λ name. let few = lawful.once name in omega arith)
+  taken =
+      pieces_taken command rules fine pieces lawful.known nothing_held refl (λ name. let few = lawful.once name in omega arith)
 
   built_takes_pieces : built_takes (built_with command c) nothing_held (spelling pieces) ≡ true
   built_takes_pieces =
@@ -111,7 +114,8 @@ record HasRow (rules : List Rule) (name : Text) (found : Option Row) : Type 0 wh
   pub known : is_piece_of rules piece ≡ true
   pub named : name_in piece ≡ name
 
-first_or_later : (rules : List Rule) (name : Text) (piece : Piece) (b : Bool) (n : ℕ) (found : Option Row) → bytes_eq (name_in piece) name ≡ b
+first_or_later : (rules : List Rule) (name : Text) (piece : Piece) (b : Bool) (n : ℕ) (found : Option Row)
+    → bytes_eq (name_in piece) name ≡ b
     → is_piece_of rules piece ≡ true → (1 ≤ n → HasRow rules name found) → 1 ≤ (if b then 1 else 0) + n
     → HasRow rules name (if b then Some (piece_row piece) else found)
 first_or_later rules name piece true n found is known later some = record {
@@ -122,7 +126,8 @@ first_or_later rules name piece true n found is known later some = record {
 }
 first_or_later rules name piece false n found is known later some = later (omega arith)
 
-row_of_name : (rules : List Rule) (name : Text) (pieces : List Piece) → list_all (is_piece_of rules) pieces ≡ true → 1 ≤ count_of name pieces
+row_of_name : (rules : List Rule) (name : Text) (pieces : List Piece) → list_all (is_piece_of rules) pieces ≡ true
+    → 1 ≤ count_of name pieces
     → HasRow rules name (row_named name (map piece_row pieces))
 row_of_name rules name [] known some = absurd (omega arith)
 row_of_name rules name (piece ∷ pieces) known some =
@@ -137,7 +142,8 @@ flag_or_option (Some Optional) a b = cc
 flag_or_option (Some Required) a b = cc
 
 -- a piece of a flag's name is the flag
-flag_piece : (rules : List Rule) (name : Text) (piece : Piece) → has_flag rules name ≡ true → is_piece_of rules piece ≡ true → name_in piece ≡ name
+flag_piece : (rules : List Rule) (name : Text) (piece : Piece) → has_flag rules name ≡ true
+    → is_piece_of rules piece ≡ true → name_in piece ≡ name
     → row_text (piece_row piece) ≡ Some (codes "true")
 flag_piece rules name (joined n text) flag known named =
     absurd (flag_or_option (form_named rules name) flag (subst (λ m. has_option rules m ≡ true) named (both (has_option rules n) _ known).0))
@@ -151,11 +157,13 @@ is_flag_form Optional e = cc
 is_flag_form Required e = cc
 
 -- a flag's text in the matches says whether it stands among the pieces
-pub flag_read : (rules : List Rule) (name : Text) (pieces : List Piece) → has_flag rules name ≡ true → list_all (is_piece_of rules) pieces ≡ true
+pub flag_read : (rules : List Rule) (name : Text) (pieces : List Piece) → has_flag rules name ≡ true
+    → list_all (is_piece_of rules) pieces ≡ true
     → one_of name (rows_of_pieces rules pieces) ≡ Some (flag_text name pieces)
 flag_read rules name pieces flag known = go (nat_lt 0 (count_of name pieces)) refl
   where
-    go : (b : Bool) → nat_lt 0 (count_of name pieces) ≡ b → one_of name (rows_of_pieces rules pieces) ≡ Some (if b then codes "true" else codes "false")
+    go : (b : Bool) → nat_lt 0 (count_of name pieces) ≡ b
+        → one_of name (rows_of_pieces rules pieces) ≡ Some (if b then codes "true" else codes "false")
     go true is =
         let some : 1 ≤ count_of name pieces = grind (arith, nat_tests) in
         let there = row_of_name rules name pieces known some in
@@ -173,20 +181,24 @@ abbrev first_text : Option Row → Option Text
 first_text row = option_and_then (λ (r : Row). slice_get r.values 0) row
 
 -- a piece of an option's name has a text
-option_piece : (rules : List Rule) (name : Text) (piece : Piece) → has_option rules name ≡ true → is_piece_of rules piece ≡ true → name_in piece ≡ name
+option_piece : (rules : List Rule) (name : Text) (piece : Piece) → has_option rules name ≡ true
+    → is_piece_of rules piece ≡ true → name_in piece ≡ name
     → first_text (Some (piece_row piece)) ≡ text_in piece
 option_piece rules name (joined n text) option known named = refl
 option_piece rules name (apart n text) option known named = refl
 option_piece rules name (alone n) option known named =
     absurd (flag_or_option (form_named rules name) (subst (λ m. has_flag rules m ≡ true) named known) option)
 
-text_here : (rules : List Rule) (name : Text) (piece : Piece) (b : Bool) (found : Option Row) (text : Option Text) → bytes_eq (name_in piece) name ≡ b
+text_here : (rules : List Rule) (name : Text) (piece : Piece) (b : Bool) (found : Option Row) (text : Option Text)
+    → bytes_eq (name_in piece) name ≡ b
     → has_option rules name ≡ true → is_piece_of rules piece ≡ true → first_text found ≡ text
     → first_text (if b then Some (piece_row piece) else found) ≡ (if b then text_in piece else text)
-text_here rules name piece true found text is option known rest = option_piece rules name piece option known ((bytes_eq-Decides (name_in piece) name).0 is)
+text_here rules name piece true found text is option known rest =
+    option_piece rules name piece option known ((bytes_eq-Decides (name_in piece) name).0 is)
 text_here rules name piece false found text is option known rest = rest
 
-text_row : (rules : List Rule) (name : Text) (pieces : List Piece) → has_option rules name ≡ true → list_all (is_piece_of rules) pieces ≡ true
+text_row : (rules : List Rule) (name : Text) (pieces : List Piece) → has_option rules name ≡ true
+    → list_all (is_piece_of rules) pieces ≡ true
     → first_text (row_named name (map piece_row pieces)) ≡ text_of name pieces
 text_row rules name [] option known = refl
 text_row rules name (piece ∷ pieces) option known =
@@ -195,25 +207,31 @@ text_row rules name (piece ∷ pieces) option known =
     (text_row rules name pieces option parts.1)
 
 -- an option's first value in the matches is its text
-pub option_read : (rules : List Rule) (name : Text) (pieces : List Piece) → are_rules rules ≡ true → has_option rules name ≡ true
+pub option_read : (rules : List Rule) (name : Text) (pieces : List Piece) → are_rules rules ≡ true
+    → has_option rules name ≡ true
     → list_all (is_piece_of rules) pieces ≡ true → first_of name (rows_of_pieces rules pieces) ≡ text_of name pieces
 option_read rules name pieces fine option known = go (row_named name (map piece_row pieces)) refl
   where
-    go : (o : Option Row) → row_named name (map piece_row pieces) ≡ o → first_of name (rows_of_pieces rules pieces) ≡ text_of name pieces
+    go : (o : Option Row) → row_named name (map piece_row pieces) ≡ o
+        → first_of name (rows_of_pieces rules pieces) ≡ text_of name pieces
     go None is =
         let form = has_form (form_named rules name) has_text option in
-        ap first_text (absent_option name rules (map piece_row pieces) form.0 form.2 fine is form.1 ∙ sym is) ∙ text_row rules name pieces option known
+        ap first_text (absent_option name rules (map piece_row pieces) form.0 form.2 fine is form.1 ∙ sym is)
+        ∙ text_row rules name pieces option known
     go (Some row) is =
-        ap first_text (defaults_keep name row rules (map piece_row pieces) is ∙ sym is) ∙ text_row rules name pieces option known
+        ap first_text (defaults_keep name row rules (map piece_row pieces) is ∙ sym is)
+        ∙ text_row rules name pieces option known
 
 -- ---- words
 
 -- lawful words are taken
-pub lawful_taken : (command : Text) (rules : List Rule) (words : List Text) → are_rules rules ≡ true → is_some (lawful_pieces rules words) ≡ true
+pub lawful_taken : (command : Text) (rules : List Rule) (words : List Text) → are_rules rules ≡ true
+    → is_some (lawful_pieces rules words) ≡ true
     → takes (app_with command rules) words ≡ true
 lawful_taken command rules words fine some = go (lawful_pieces rules words) refl some
   where
-    go : (o : Option (List Piece)) → lawful_pieces rules words ≡ o → is_some o ≡ true → takes (app_with command rules) words ≡ true
+    go : (o : Option (List Piece)) → lawful_pieces rules words ≡ o → is_some o ≡ true
+        → takes (app_with command rules) words ≡ true
     go None is some = cc
     go (Some pieces) is some =
         let read = read_lawful rules words pieces is in
@@ -227,13 +245,18 @@ module _ (command : Text) (rules : List Rule) (words : List Text) (app : App) (m
 
   matched_rows : rows_of (found_of matches) ≡ rows_of_pieces rules pieces
   matched_rows =
-      (has (ap is_simple same ∙ simple_app command rules)).0 ∙ ap₂ matches_of same (sym read.1) ∙ pieces_match command rules pieces fine read.0
+      (has (ap is_simple same ∙ simple_app command rules)).0 ∙ ap₂ matches_of same (sym read.1)
+      ∙ pieces_match command rules pieces fine read.0
 
   -- what they have under a flag's name, and under an option's
-  pub lawful_flag : (flag : Text) → has_flag rules flag ≡ true → one_text (found_of matches) flag ≡ Some (flag_text flag pieces)
+  pub lawful_flag : (flag : Text) → has_flag rules flag ≡ true
+      → one_text (found_of matches) flag ≡ Some (flag_text flag pieces)
   lawful_flag flag there =
-      one_text-rows (found_of matches) flag ∙ ap (one_of flag) matched_rows ∙ flag_read rules flag pieces there read.0.known
+      one_text-rows (found_of matches) flag ∙ ap (one_of flag) matched_rows
+      ∙ flag_read rules flag pieces there read.0.known
 
-  pub lawful_option : (name : Text) → has_option rules name ≡ true → first_value (found_of matches) name ≡ text_of name pieces
+  pub lawful_option : (name : Text) → has_option rules name ≡ true
+      → first_value (found_of matches) name ≡ text_of name pieces
   lawful_option name there =
-      first_value-rows (found_of matches) name ∙ ap (first_of name) matched_rows ∙ option_read rules name pieces fine there read.0.known
+      first_value-rows (found_of matches) name ∙ ap (first_of name) matched_rows
+      ∙ option_read rules name pieces fine there read.0.known

@@ -40,11 +40,13 @@ whole_name name plain =
 
 joined_long : (name text : Text) → IsName name → IsLong (45 ∷ 45 ∷ (name ++ 61 ∷ text)) name (Some text)
 joined_long [] text named = absurd (named.nonempty refl)
-joined_long (first ∷ more) text named = record { other = refl; long = ap (λ p. Some p) (cut_name (first ∷ more) text named.plain) }
+joined_long (first ∷ more) text named =
+    record { other = refl; long = ap (λ p. Some p) (cut_name (first ∷ more) text named.plain) }
 
 named_long : (name : Text) → IsName name → IsLong (45 ∷ 45 ∷ name) name None
 named_long [] named = absurd (named.nonempty refl)
-named_long (first ∷ more) named = record { other = refl; long = ap (λ p. Some p) (whole_name (first ∷ more) named.plain) }
+named_long (first ∷ more) named =
+    record { other = refl; long = ap (λ p. Some p) (whole_name (first ∷ more) named.plain) }
 
 -- a word that isn't taken for an option
 record IsPlain (word : Text) : Type 0 where
@@ -60,7 +62,8 @@ plain_text (first ∷ more) e = go (first == 45) refl e
     go true is e = cc
     go false is e = record {
       other = ap (λ b. b && bytes_eq more (45 ∷ [])) is;
-      long = ap (λ b. option_and_then long_of_rest (option_and_then (strip_byte 45) (if b then Some more else None))) is;
+      long =
+          ap (λ b. option_and_then long_of_rest (option_and_then (strip_byte 45) (if b then Some more else None))) is;
       short = ap (λ b. option_and_then short_of_rest (if b then Some more else None)) is;
     }
 
@@ -78,7 +81,8 @@ module _ (command : Text) (c : List ClapRule) where
   abbrev met_long : Held → Text → ClapRule → Option Text → Held × Step
   met_long h word a value = after_flag c idle word (long_met c (Some a) value h).0 (long_met c (Some a) value h).1
 
-  long_walked : (h : Held) (word name : Text) (value : Option Text) (a : ClapRule) → IsLong word name value → arg_by_long c name ≡ Some a
+  long_walked : (h : Held) (word name : Text) (value : Option Text) (a : ClapRule) → IsLong word name value
+      → arg_by_long c name ≡ Some a
       → walked c [] (walk_from h) word ≡ after_step c word (walk_from h) (met_long h word a value).0 (met_long h word a value).1
   unfolding walked
   long_walked h word name value a is found =
@@ -87,7 +91,8 @@ module _ (command : Text) (c : List ClapRule) where
       ∙ ap (λ l. step (long_or_other c idle word l h)) is.long
       ∙ ap (λ x. step (after_flag c idle word (long_met c x value h).0 (long_met c x value h).1)) found
 
-  long_passed : (h : Held) (word name : Text) (value : Option Text) (a : ClapRule) → IsLong word name value → arg_by_long c name ≡ Some a
+  long_passed : (h : Held) (word name : Text) (value : Option Text) (a : ClapRule) → IsLong word name value
+      → arg_by_long c name ≡ Some a
       → turn_passes s [] (walk_from h) word ≡ (long_passes c false (Some a) value h && step_passes s 1 (met_long h word a value).0 (met_long h word a value).1)
   long_passed h word name value a is found =
       let step : Held × Step → Bool = λ met. step_passes s 1 met.0 met.1 in
@@ -105,7 +110,8 @@ module _ (command : Text) (c : List ClapRule) where
   abbrev waits : Text → Held → Walk
   waits name h = record (walk_from h) { waiting = option name }
 
-  text_walked : (h : Held) (name text : Text) (needed : Bool) → IsPlain text → arg_by_id c name ≡ Some (option_rule name needed)
+  text_walked : (h : Held) (name text : Text) (needed : Bool) → IsPlain text
+      → arg_by_id c name ≡ Some (option_rule name needed)
       → walked c [] (waits name (opened name h)) text ≡ walk_from (given name text h)
   unfolding walked
   text_walked h name text needed is found =
@@ -138,19 +144,23 @@ module _ (command : Text) (c : List ClapRule) where
 
   one_word : (h after : Held) (word : Text) (words : List Text) (piece : Piece) (pieces : List Piece)
       → turn_passes s [] (walk_from h) word ≡ true → walked c [] (walk_from h) word ≡ walk_from after
-      → rows_at after ≡ rows_at h ++ piece_row piece ∷ [] → IsTaken after words pieces → IsTaken h (word ∷ words) (piece ∷ pieces)
+      → rows_at after ≡ rows_at h ++ piece_row piece ∷ [] → IsTaken after words pieces
+      → IsTaken h (word ∷ words) (piece ∷ pieces)
   unfolding walk_passes
   one_word h after word words piece pieces turn walks grows rest = record {
     passes = ap₂ (λ a b. a && b) turn (ap (λ v. walk_passes s [] v words) walks ∙ rest.passes);
     end = rest.end;
     walks = ap (λ v. fold (walked c []) v words) walks ∙ rest.walks;
     settles = rest.settles;
-    rows = rest.rows ∙ ap (λ rs. rs ++ map piece_row pieces) grows ∙ append_assoc (rows_at h) (piece_row piece ∷ []) (map piece_row pieces);
+    rows =
+        rest.rows ∙ ap (λ rs. rs ++ map piece_row pieces) grows
+        ∙ append_assoc (rows_at h) (piece_row piece ∷ []) (map piece_row pieces);
   }
 
   two_words : (h : Held) (name word text : Text) (words : List Text) (piece : Piece) (pieces : List Piece)
       → turn_passes s [] (walk_from h) word ≡ true → walked c [] (walk_from h) word ≡ waits name (opened name h)
-      → turn_passes s [] (waits name (opened name h)) text ≡ true → walked c [] (waits name (opened name h)) text ≡ walk_from (given name text h)
+      → turn_passes s [] (waits name (opened name h)) text ≡ true
+      → walked c [] (waits name (opened name h)) text ≡ walk_from (given name text h)
       → rows_at (given name text h) ≡ rows_at h ++ piece_row piece ∷ [] → IsTaken (given name text h) words pieces
       → IsTaken h (word ∷ text ∷ words) (piece ∷ pieces)
   unfolding walk_passes
@@ -159,22 +169,28 @@ module _ (command : Text) (c : List ClapRule) where
         (ap (λ v. turn_passes s [] v text && walk_passes s [] (walked c [] v text) words) walks
         ∙ ap₂ (λ a b. a && b) turn-2 (ap (λ v. walk_passes s [] v words) walks-2 ∙ rest.passes));
     end = rest.end;
-    walks = ap (λ v. fold (walked c []) (walked c [] v text) words) walks ∙ ap (λ v. fold (walked c []) v words) walks-2 ∙ rest.walks;
+    walks =
+        ap (λ v. fold (walked c []) (walked c [] v text) words) walks ∙ ap (λ v. fold (walked c []) v words) walks-2
+        ∙ rest.walks;
     settles = rest.settles;
-    rows = rest.rows ∙ ap (λ rs. rs ++ map piece_row pieces) grows ∙ append_assoc (rows_at h) (piece_row piece ∷ []) (map piece_row pieces);
+    rows =
+        rest.rows ∙ ap (λ rs. rs ++ map piece_row pieces) grows
+        ∙ append_assoc (rows_at h) (piece_row piece ∷ []) (map piece_row pieces);
   }
 
 -- no name stands twice among the rows and the pieces to come
 abbrev pub Fits : List Row → List Piece → Type 0
 Fits rows pieces = (name : Text) → rows_under name rows + count_of name pieces ≤ 1
 
-fits_free : (rows : List Row) (piece : Piece) (pieces : List Piece) → Fits rows (piece ∷ pieces) → has_row (name_in piece) rows ≡ false
+fits_free : (rows : List Row) (piece : Piece) (pieces : List Piece) → Fits rows (piece ∷ pieces)
+    → has_row (name_in piece) rows ≡ false
 fits_free rows piece pieces fits =
     let here : 1 + count_of (name_in piece) pieces ≡ count_of (name_in piece) (piece ∷ pieces) =
     ap (λ b. (if b then 1 else 0) + count_of (name_in piece) pieces) (sym ((bytes_eq-Decides (name_in piece) (name_in piece)).1 refl)) in
     no_row (name_in piece) rows (omega (arith, here, fits (name_in piece)))
 
-fits_next : (rows after : List Row) (piece : Piece) (pieces : List Piece) → Fits rows (piece ∷ pieces) → after ≡ rows ++ piece_row piece ∷ [] → Fits after pieces
+fits_next : (rows after : List Row) (piece : Piece) (pieces : List Piece) → Fits rows (piece ∷ pieces)
+    → after ≡ rows ++ piece_row piece ∷ [] → Fits after pieces
 fits_next rows after piece pieces fits grows name =
     subst (λ rs. rows_under name rs + count_of name pieces ≤ 1) (sym grows)
     (omega (arith, rows_under-push name rows (piece_row piece), fits name))
@@ -183,7 +199,8 @@ module _ (command : Text) (rules : List Rule) (fine : are_rules rules ≡ true) 
   abbrev c : List ClapRule
   c = map built_rule rules
 
-  taken_joined : (name text : Text) (pieces : List Piece) (h : Held) → settle_passes c false h ≡ true → Fits (rows_at command c h) (joined name text ∷ pieces)
+  taken_joined : (name text : Text) (pieces : List Piece) (h : Held) → settle_passes c false h ≡ true
+      → Fits (rows_at command c h) (joined name text ∷ pieces)
       → is_piece_of rules (joined name text) ≡ true
       → ((after : Held) → settle_passes c false after ≡ true → Fits (rows_at command c after) pieces → IsTaken command c after (spelling pieces) pieces)
       → IsTaken command c h (spelling (joined name text ∷ pieces)) (joined name text ∷ pieces)
@@ -199,7 +216,8 @@ module _ (command : Text) (rules : List Rule) (fine : are_rules rules ≡ true) 
       (long_walked command c h _ name (Some text) _ long option.1.long) grows
       (rest after refl (fits_next _ _ (joined name text) pieces fits grows))
 
-  taken_alone : (name : Text) (pieces : List Piece) (h : Held) → settle_passes c false h ≡ true → Fits (rows_at command c h) (alone name ∷ pieces)
+  taken_alone : (name : Text) (pieces : List Piece) (h : Held) → settle_passes c false h ≡ true
+      → Fits (rows_at command c h) (alone name ∷ pieces)
       → is_piece_of rules (alone name) ≡ true
       → ((after : Held) → settle_passes c false after ≡ true → Fits (rows_at command c after) pieces → IsTaken command c after (spelling pieces) pieces)
       → IsTaken command c h (spelling (alone name ∷ pieces)) (alone name ∷ pieces)
@@ -214,7 +232,8 @@ module _ (command : Text) (rules : List Rule) (fine : are_rules rules ≡ true) 
       (long_walked command c h _ name None _ long flag) grows
       (rest after refl (fits_next _ _ (alone name) pieces fits grows))
 
-  taken_apart : (name text : Text) (pieces : List Piece) (h : Held) → settle_passes c false h ≡ true → Fits (rows_at command c h) (apart name text ∷ pieces)
+  taken_apart : (name text : Text) (pieces : List Piece) (h : Held) → settle_passes c false h ≡ true
+      → Fits (rows_at command c h) (apart name text ∷ pieces)
       → is_piece_of rules (apart name text) ≡ true
       → ((after : Held) → settle_passes c false after ≡ true → Fits (rows_at command c after) pieces → IsTaken command c after (spelling pieces) pieces)
       → IsTaken command c h (spelling (apart name text ∷ pieces)) (apart name text ∷ pieces)
@@ -236,10 +255,12 @@ module _ (command : Text) (rules : List Rule) (fine : are_rules rules ≡ true) 
       (text_walked command c h name text option.0 plain option.1.id) grows
       (rest after settles (fits_next _ _ (apart name text) pieces fits grows))
 
-  pub pieces_taken : (pieces : List Piece) → list_all (is_piece_of rules) pieces ≡ true → (h : Held) → settle_passes c false h ≡ true
+  pub pieces_taken : (pieces : List Piece) → list_all (is_piece_of rules) pieces ≡ true → (h : Held)
+      → settle_passes c false h ≡ true
       → Fits (rows_at command c h) pieces → IsTaken command c h (spelling pieces) pieces
   unfolding walk_passes
-  pieces_taken [] known h ready fits = record { passes = refl; end = h; walks = refl; settles = ready; rows = sym (append-nil (rows_at command c h)) }
+  pieces_taken [] known h ready fits =
+      record { passes = refl; end = h; walks = refl; settles = ready; rows = sym (append-nil (rows_at command c h)) }
   pieces_taken (joined name text ∷ pieces) known h ready fits =
       let parts = both (is_piece_of rules (joined name text)) _ known in
       taken_joined name text pieces h ready fits parts.0 (λ after settles fit. pieces_taken pieces parts.1 after settles fit)

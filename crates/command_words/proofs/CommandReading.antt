@@ -24,42 +24,50 @@ name_read name.Check = refl
 read_name : (word : Text) (command : CommandName) → name_of word ≡ Some command → word ≡ word_of command
 read_name word command e = replay (bytes_eq word (word_of name.Replay)) refl e
   where
-    check : (b : Bool) → bytes_eq word (word_of name.Check) ≡ b → (if b then Some name.Check else None) ≡ Some command → word ≡ word_of command
+    check : (b : Bool) → bytes_eq word (word_of name.Check) ≡ b → (if b then Some name.Check else None) ≡ Some command
+        → word ≡ word_of command
     check true is e = (bytes_eq-Decides word (word_of name.Check)).0 is ∙ ap word_of (same_Some _ _ e)
     check false is e = cc
 
     replay : (b : Bool) → bytes_eq word (word_of name.Replay) ≡ b
-        → (if b then Some name.Replay else (if bytes_eq word (word_of name.Check) then Some name.Check else None)) ≡ Some command → word ≡ word_of command
+        → (if b then Some name.Replay else (if bytes_eq word (word_of name.Check) then Some name.Check else None)) ≡ Some command
+        → word ≡ word_of command
     replay true is e = (bytes_eq-Decides word (word_of name.Replay)).0 is ∙ ap word_of (same_Some _ _ e)
     replay false is e = check (bytes_eq word (word_of name.Check)) refl e
 
-pub asked_read : (words : List Text) (pieces : List Piece) (command : Command) → Asks words pieces command → command_of words ≡ Some command
+pub asked_read : (words : List Text) (pieces : List Piece) (command : Command) → Asks words pieces command
+    → command_of words ≡ Some command
 asked_read words pieces command asks =
     ap command_of asks.spelled
     ∙ ap (option_and_then (command_named (spelling pieces))) (name_read asks.name)
     ∙ ap (option_and_then (command_with asks.name)) (lawful_read (rules_of asks.name) (spelling pieces) pieces (rules_fine asks.name) asks.lawful refl)
     ∙ asks.values
 
-named_asks : (word : Text) (words : List Text) (name : CommandName) (command : Command) → word ≡ word_of name → command_named words name ≡ Some command
+named_asks : (word : Text) (words : List Text) (name : CommandName) (command : Command) → word ≡ word_of name
+    → command_named words name ≡ Some command
     → (pieces : List Piece) × Asks (word ∷ words) pieces command
 named_asks word words name command is e = go (lawful_pieces (rules_of name) words) refl e
   where
-    go : (o : Option (List Piece)) → lawful_pieces (rules_of name) words ≡ o → option_and_then (command_with name) o ≡ Some command
+    go : (o : Option (List Piece)) → lawful_pieces (rules_of name) words ≡ o
+        → option_and_then (command_with name) o ≡ Some command
         → (pieces : List Piece) × Asks (word ∷ words) pieces command
     go None read e = cc
     go (Some pieces) read e =
         let lawful = read_lawful (rules_of name) words pieces read in
         (pieces, record { name = name; spelled = ap₂ (λ w ws. w ∷ ws) is (sym lawful.1); lawful = lawful.0; values = e })
 
-pub read_asks : (words : List Text) (command : Command) → command_of words ≡ Some command → (pieces : List Piece) × Asks words pieces command
+pub read_asks : (words : List Text) (command : Command) → command_of words ≡ Some command
+    → (pieces : List Piece) × Asks words pieces command
 read_asks [] command e = cc
 read_asks (word ∷ words) command e = go (name_of word) refl e
   where
-    go : (o : Option CommandName) → name_of word ≡ o → option_and_then (command_named words) o ≡ Some command → (pieces : List Piece) × Asks (word ∷ words) pieces command
+    go : (o : Option CommandName) → name_of word ≡ o → option_and_then (command_named words) o ≡ Some command
+        → (pieces : List Piece) × Asks (word ∷ words) pieces command
     go None is e = cc
     go (Some name) is e = named_asks word words name command (read_name word name is) e
 
-same_pieces : (words : List Text) (pieces others : List Piece) (command other : Command) → (a : Asks words pieces command) → (b : Asks words others other) → pieces ≡ others
+same_pieces : (words : List Text) (pieces others : List Piece) (command other : Command)
+    → (a : Asks words pieces command) → (b : Asks words others other) → pieces ≡ others
 same_pieces words pieces others command other a b =
     let spelled : ◌≡◌ {A = List Text} (word_of a.name ∷ spelling pieces) (word_of b.name ∷ spelling others) = sym a.spelled ∙ b.spelled in
     let words_are : word_of a.name ≡ word_of b.name = cc in
@@ -69,7 +77,8 @@ same_pieces words pieces others command other a b =
     ∙ ap (λ n. lawful_pieces (rules_of n) (spelling others)) names
     ∙ lawful_read (rules_of b.name) (spelling others) others (rules_fine b.name) b.lawful refl)
 
-pub one_asked : (words : List Text) (pieces others : List Piece) (command other : Command) → Asks words pieces command → Asks words others other
+pub one_asked : (words : List Text) (pieces others : List Piece) (command other : Command) → Asks words pieces command
+    → Asks words others other
     → (pieces ≡ others) × (command ≡ other)
 one_asked words pieces others command other a b =
     (same_pieces words pieces others command other a b, same_Some _ _ (sym (asked_read words pieces command a) ∙ asked_read words others other b))

@@ -15,7 +15,8 @@ use Rattle.command_words.specs.Reading.{whole, opens, nothing, after_hyphens, lo
 
 -- the count of a name where n were met before the words
 unfoldable pub count_from : List Rule → Text → Option Text → ℕ → List Text → Option ℕ
-count_from rules name waiting n words = option_map (λ pieces. n + count_of name pieces) (pieces_from rules waiting words)
+count_from rules name waiting n words =
+    option_map (λ pieces. n + count_of name pieces) (pieces_from rules waiting words)
 
 with_more : (o : Option (List Piece)) (name : Text) (n : ℕ) (piece : Piece)
     → option_map (λ pieces. n + count_of name pieces) (option_map (λ pieces. piece ∷ pieces) o)
@@ -37,7 +38,8 @@ module _ (rules : List Rule) (name : Text) (waiting : Option Text) (n : ℕ) (wo
   count_from-opens option is =
       ap (λ m. option_map (λ pieces. n + count_of name pieces) (after_meaning m (λ next. pieces_from rules next words))) is
 
-  pub count_from-nothing : meaning_of rules waiting word ≡ nothing → count_from rules name waiting n (word ∷ words) ≡ None
+  pub count_from-nothing : meaning_of rules waiting word ≡ nothing
+      → count_from rules name waiting n (word ∷ words) ≡ None
   unfolding count_from
   count_from-nothing is =
       ap (λ m. option_map (λ pieces. n + count_of name pieces) (after_meaning m (λ next. pieces_from rules next words))) is
@@ -55,7 +57,8 @@ pub count_from-end : (rules : List Rule) (name : Text) (n : ℕ) → count_from 
 unfolding count_from
 count_from-end rules name n = ap Some (omega arith)
 
-pub count_from-waits : (rules : List Rule) (name option : Text) (n : ℕ) → count_from rules name (Some option) n [] ≡ None
+pub count_from-waits : (rules : List Rule) (name option : Text) (n : ℕ)
+    → count_from rules name (Some option) n [] ≡ None
 unfolding count_from
 count_from-waits rules name option n = refl
 
@@ -78,13 +81,17 @@ module _ {X : Type 0} (f : X → Text) (xs : List X) (i : ℕ) (x : X) (lt : i <
       ap (λ ws. count_from rules name waiting n ws) (map-drop_at f xs i x lt at)
       ∙ ap (λ w. count_from rules name waiting n (w ∷ map f (drop (i + 1) xs))) (sym reads)
 
-  pub named_here : (piece : Piece) → whole piece ≡ meaning_of rules waiting t → true ≡ bytes_eq (name_in piece) name → before ≡ after None (n + 1)
+  pub named_here : (piece : Piece) → whole piece ≡ meaning_of rules waiting t → true ≡ bytes_eq (name_in piece) name
+      → before ≡ after None (n + 1)
   named_here piece is e =
-      word_first ∙ count_from-whole rules name waiting n t _ piece (sym is) ∙ ap (λ b. after None (n + (if b then 1 else 0))) (sym e)
+      word_first ∙ count_from-whole rules name waiting n t _ piece (sym is)
+      ∙ ap (λ b. after None (n + (if b then 1 else 0))) (sym e)
 
-  pub other_here : (piece : Piece) → whole piece ≡ meaning_of rules waiting t → false ≡ bytes_eq (name_in piece) name → before ≡ after None n
+  pub other_here : (piece : Piece) → whole piece ≡ meaning_of rules waiting t → false ≡ bytes_eq (name_in piece) name
+      → before ≡ after None n
   other_here piece is e =
-      word_first ∙ count_from-whole rules name waiting n t _ piece (sym is) ∙ ap (λ b. after None (n + (if b then 1 else 0))) (sym e)
+      word_first ∙ count_from-whole rules name waiting n t _ piece (sym is)
+      ∙ ap (λ b. after None (n + (if b then 1 else 0))) (sym e)
       ∙ ap (after None) (omega arith)
 
   pub opened_here : (option : Text) → opens option ≡ meaning_of rules waiting t → before ≡ after (Some option) n
@@ -96,7 +103,8 @@ module _ {X : Type 0} (f : X → Text) (xs : List X) (i : ℕ) (x : X) (lt : i <
 -- past the last word
 pub no_words_left : {X : Type 0} (f : X → Text) (xs : List X) (i : ℕ) (rules : List Rule) (name : Text) (waiting : Option Text) (n : ℕ)
     → length xs ≤ i → count_from rules name waiting n (map f (drop i xs)) ≡ count_from rules name waiting n []
-no_words_left f xs i rules name waiting n past = at_drop_all (λ ys. count_from rules name waiting n (map f ys)) xs i past
+no_words_left f xs i rules name waiting n past =
+    at_drop_all (λ ys. count_from rules name waiting n (map f ys)) xs i past
 
 -- ---- each rule counts
 
@@ -110,7 +118,8 @@ pub lawful-counts : (arguments : List Argument) (o : Option (List Piece)) → fa
 lawful-counts [] o some = absurd (true≢false (sym some))
 lawful-counts (a ∷ arguments) None some = refl
 lawful-counts (a ∷ arguments) (Some pieces) some =
-    sym (list_all-map (is_counted pieces) rule_in (a ∷ arguments)) ∙ go (list_all (is_counted pieces) (rules_in (a ∷ arguments)))
+    sym (list_all-map (is_counted pieces) rule_in (a ∷ arguments))
+    ∙ go (list_all (is_counted pieces) (rules_in (a ∷ arguments)))
   where
     go : (b : Bool) → b ≡ is_some (if b then Some pieces else None)
     go true = refl
@@ -128,12 +137,14 @@ nothing_at : (o : Option Text) → option_map_or (long_meaning []) o nothing ≡
 nothing_at None = refl
 nothing_at (Some rest) = nothing_long rest
 
-pub lawful-no_rules : {X : Type 0} (f : X → Text) (arguments : List Argument) (words : List X) → true ≡ (length arguments == 0)
+pub lawful-no_rules : {X : Type 0} (f : X → Text) (arguments : List Argument) (words : List X)
+    → true ≡ (length arguments == 0)
     → (length words == 0) ≡ is_some (lawful_pieces (rules_in arguments) (map f words))
 lawful-no_rules f [] [] none = refl
 lawful-no_rules f [] (word ∷ words) none =
     let some : (length (word ∷ words) == 0) ≡ false = grind arith in
-    some ∙ ap (λ m. is_some (option_and_then (counted []) (after_meaning m (λ next. pieces_from [] next (map f words))))) (sym (nothing_at (after_hyphens (f word))))
+    some
+    ∙ ap (λ m. is_some (option_and_then (counted []) (after_meaning m (λ next. pieces_from [] next (map f words))))) (sym (nothing_at (after_hyphens (f word))))
 lawful-no_rules f (a ∷ arguments) words none =
     let some : (length (a ∷ arguments) == 0) ≡ false = grind arith in
     absurd (true≢false (none ∙ some))

@@ -9,7 +9,8 @@ use Rattle.command_words.specs.Rules.{Text}
 use Rattle.command_words.specs.Reading.{after_hyphen}
 
 -- a hyphen taken off, or none there
-pub after_hyphen-stripped : (word : Text) (r : Option (Bor Text)) → MatchOption r ((rest : Text) → word ≢ 45 ∷ rest) (λ x. word ≡ 45 ∷ x.now)
+pub after_hyphen-stripped : (word : Text) (r : Option (Bor Text))
+    → MatchOption r ((rest : Text) → word ≢ 45 ∷ rest) (λ x. word ≡ 45 ∷ x.now)
     → option_map (λ rest. rest.now) r ≡ after_hyphen word
 after_hyphen-stripped [] None none = refl
 after_hyphen-stripped (first ∷ more) None none = go (nat_eq first 45) refl

@@ -33,9 +33,12 @@ count_lawful Optional n most least = grind (arith, nat_tests)
 count_lawful Required n most least = let some : 1 ≤ n = least refl in grind (arith, nat_tests)
 
 -- the name of a piece of the command is a name of the command
-named_piece : (rules : List Rule) (piece : Piece) → is_piece_of rules piece ≡ true → (form : Form) × (form_named rules (name_in piece) ≡ Some form)
-named_piece rules (joined name text) known = let form = has_form (form_named rules name) has_text (both _ _ known).0 in (form.0, form.1)
-named_piece rules (apart name text) known = let form = has_form (form_named rules name) has_text (both _ _ known).0 in (form.0, form.1)
+named_piece : (rules : List Rule) (piece : Piece) → is_piece_of rules piece ≡ true
+    → (form : Form) × (form_named rules (name_in piece) ≡ Some form)
+named_piece rules (joined name text) known =
+    let form = has_form (form_named rules name) has_text (both _ _ known).0 in (form.0, form.1)
+named_piece rules (apart name text) known =
+    let form = has_form (form_named rules name) has_text (both _ _ known).0 in (form.0, form.1)
 named_piece rules (alone name) known = let form = has_form (form_named rules name) is_flag known in (form.0, form.1)
 
 -- a name that stands among the pieces is one of the command
@@ -45,7 +48,8 @@ counted_name rules name [] known = inl refl
 counted_name rules name (piece ∷ pieces) known = go (bytes_eq (name_in piece) name) refl
     (counted_name rules name pieces (both (is_piece_of rules piece) _ known).1)
   where
-    go : (b : Bool) → bytes_eq (name_in piece) name ≡ b → (count_of name pieces ≡ 0) ⊎ ((form : Form) × (form_named rules name ≡ Some form))
+    go : (b : Bool) → bytes_eq (name_in piece) name ≡ b
+        → (count_of name pieces ≡ 0) ⊎ ((form : Form) × (form_named rules name ≡ Some form))
         → ((if b then 1 else 0) + count_of name pieces ≡ 0) ⊎ ((form : Form) × (form_named rules name ≡ Some form))
     go true e rest =
         let form = named_piece rules piece (both (is_piece_of rules piece) _ known).0 in
@@ -61,7 +65,8 @@ named_count (rule ∷ rules) name form pieces found counts = find_cases (bytes_e
     (λ e _. subst (λ n. count_of n pieces ≤ 1) ((bytes_eq-Decides rule.name name).0 e) (count_at_most rule.form _ (both _ _ counts).0))
     (λ _ further. named_count rules name form pieces further (both _ _ counts).1)
 
-once : (rules : List Rule) (pieces : List Piece) → list_all (is_piece_of rules) pieces ≡ true → list_all (is_counted pieces) rules ≡ true
+once : (rules : List Rule) (pieces : List Piece) → list_all (is_piece_of rules) pieces ≡ true
+    → list_all (is_counted pieces) rules ≡ true
     → (name : Text) → count_of name pieces ≤ 1
 once rules pieces known counts name = go (counted_name rules name pieces known)
   where
@@ -85,18 +90,21 @@ all_counted rules pieces most least = list_all-from_AllPass (is_counted pieces) 
 
 -- ---- the laws
 
-pub lawful_read : (rules : List Rule) (words : List Text) (pieces : List Piece) → are_rules rules ≡ true → AreLawful rules pieces → spelling pieces ≡ words
+pub lawful_read : (rules : List Rule) (words : List Text) (pieces : List Piece) → are_rules rules ≡ true
+    → AreLawful rules pieces → spelling pieces ≡ words
     → lawful_pieces rules words ≡ Some pieces
 lawful_read rules words pieces fine lawful spelled =
     ap (λ ws. option_and_then (counted rules) (pieces_from rules None ws)) (sym spelled)
     ∙ ap (option_and_then (counted rules)) (spelling_read rules fine pieces lawful.known)
     ∙ ap (λ b. if b then Some pieces else None) (all_counted rules pieces lawful.once lawful.required)
 
-pub read_lawful : (rules : List Rule) (words : List Text) (pieces : List Piece) → lawful_pieces rules words ≡ Some pieces
+pub read_lawful : (rules : List Rule) (words : List Text) (pieces : List Piece)
+    → lawful_pieces rules words ≡ Some pieces
     → AreLawful rules pieces × (spelling pieces ≡ words)
 read_lawful rules words pieces e = go (pieces_from rules None words) refl e
   where
-    held : (qs : List Piece) → pieces_from rules None words ≡ Some qs → (b : Bool) → list_all (is_counted qs) rules ≡ b → (if b then Some qs else None) ≡ Some pieces
+    held : (qs : List Piece) → pieces_from rules None words ≡ Some qs → (b : Bool) → list_all (is_counted qs) rules ≡ b
+        → (if b then Some qs else None) ≡ Some pieces
         → AreLawful rules pieces × (spelling pieces ≡ words)
     held qs from true counts e =
         let read = pieces_spell rules words qs from in
@@ -104,6 +112,7 @@ read_lawful rules words pieces e = go (pieces_from rules None words) refl e
         subst (λ ps. AreLawful rules ps × (spelling ps ≡ words)) (same_Some _ _ e) (lawful, read.0)
     held qs from false counts e = cc
 
-    go : (o : Option (List Piece)) → pieces_from rules None words ≡ o → option_and_then (counted rules) o ≡ Some pieces → AreLawful rules pieces × (spelling pieces ≡ words)
+    go : (o : Option (List Piece)) → pieces_from rules None words ≡ o → option_and_then (counted rules) o ≡ Some pieces
+        → AreLawful rules pieces × (spelling pieces ≡ words)
     go None from e = cc
     go (Some qs) from e = held qs from (list_all (is_counted qs) rules) refl e

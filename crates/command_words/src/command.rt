@@ -39,7 +39,8 @@ fn refusal_of(error: &Error) -> WordsRefusal
 
 // Zero where the flag is set.
 fn pad_in(matches: &ArgMatches) -> Pad
-    ensures { (given : Bool) → one_text (found_of matches.now) (codes "zero") ≡ Some (if given then codes "true" else codes "false")
+    ensures { (given : Bool)
+        → one_text (found_of matches.now) (codes "zero") ≡ Some (if given then codes "true" else codes "false")
         → result ≡ (if given then Pad.Zero else Pad.Any) }
 {
     if matches.get_flag("zero") {

@@ -30,10 +30,14 @@ pub fn words_of_commands()
 
 /// Options and flags in any order, each once, and those that aren't lawful.
 pub fn words_with_options()
-    ensures joined { lawful_pieces example_rules (codes "--turns=5" ∷ []) ≡ Some (joined (codes "turns") (codes "5") ∷ []) }
-    ensures apart { lawful_pieces example_rules (codes "--turns" ∷ codes "5" ∷ []) ≡ Some (apart (codes "turns") (codes "5") ∷ []) }
-    ensures all { lawful_pieces example_rules (codes "--count" ∷ codes "--listen=a=b" ∷ codes "--turns" ∷ codes "=" ∷ [])
-        ≡ Some (alone (codes "count") ∷ joined (codes "listen") (codes "a=b") ∷ apart (codes "turns") (codes "=") ∷ []) }
+    ensures joined { lawful_pieces example_rules (codes "--turns=5" ∷ [])
+        ≡ Some (joined (codes "turns") (codes "5") ∷ []) }
+    ensures apart { lawful_pieces example_rules (codes "--turns" ∷ codes "5" ∷ [])
+        ≡ Some (apart (codes "turns") (codes "5") ∷ []) }
+    ensures all { lawful_pieces example_rules
+        (codes "--count" ∷ codes "--listen=a=b" ∷ codes "--turns" ∷ codes "=" ∷ [])
+        ≡ Some (alone (codes "count") ∷ joined (codes "listen") (codes "a=b")
+        ∷ apart (codes "turns") (codes "=") ∷ []) }
 
     ensures left_out { lawful_pieces example_rules (codes "--count" ∷ []) ≡ None }
     ensures twice { lawful_pieces example_rules (codes "--turns=5" ∷ codes "--turns" ∷ codes "6" ∷ []) ≡ None }

@@ -122,7 +122,8 @@ pub(crate) fn read_word<'a>(
     waiting: Option<&'a str>,
     word: &'a str,
 ) -> Meaning<'a>
-    ensures { shown result ≡ meaning_of (rules_in arguments.now) (option_map (λ name. name.now) waiting.entry) word.entry.now }
+    ensures { shown result
+        ≡ meaning_of (rules_in arguments.now) (option_map (λ name. name.now) waiting.entry) word.entry.now }
 {
     match waiting {
         Some(name) if can_be_text(word) => Meaning::Whole(Piece::Apart(name, word)),

@@ -11,7 +11,8 @@ use crate::meaning::{Meaning, read_word};
 
 // How many of the pieces have the name, or None where the words aren't made of pieces.
 fn count(arguments: &[Argument], words: &[String], name: &str) -> Option<usize>
-    ensures { result ≡ option_map (count_of name.now) (pieces_from (rules_in arguments.now) None (map string_bytes words.now)) }
+    ensures { result ≡ option_map (count_of name.now)
+        (pieces_from (rules_in arguments.now) None (map string_bytes words.now)) }
 {
     let mut count = 0;
     let mut waiting = None;

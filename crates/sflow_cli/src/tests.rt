@@ -5,19 +5,35 @@ use std::test::Fail;
 // The magic and version 1.
 const HEADER: [u8; 8] = *b"SFLC\0\0\0\x01";
 
-// Arrival 1,000 ms, and the length of a datagram.
-const BEFORE_28: [u8; 12] = [0, 0, 0, 0, 0, 0, 3, 232, 0, 0, 0, 28];
+// Arrival 1,000 ms, 28 bytes: version 5, agent 10.0.0.1, sub-agent 0, sequence number 1, uptime 1,000 ms, no samples.
+const ENTRY: [u8; 40] = [
+    0, 0, 0, 0, 0, 0, 3, 232, 0, 0, 0, 28, 0, 0, 0, 5, 0, 0, 0, 1, 10, 0, 0, 1, 0, 0, 0, 0, 0, 0,
+    0, 1, 0, 0, 3, 232, 0, 0, 0, 0,
+];
 
-const BEFORE_27: [u8; 12] = [0, 0, 0, 0, 0, 0, 3, 232, 0, 0, 0, 27];
+// What stands before the bytes of such an entry, and the bytes.
+const BEFORE: [u8; 12] = [0, 0, 0, 0, 0, 0, 3, 232, 0, 0, 0, 28];
 
-// Version 5, agent 10.0.0.1, sub-agent 0, sequence number 1, uptime 1,000 ms, no samples.
 const DATAGRAM: [u8; 28] = [
     0, 0, 0, 5, 0, 0, 0, 1, 10, 0, 0, 1, 0, 0, 0, 0, 0, 0, 0, 1, 0, 0, 3, 232, 0, 0, 0, 0,
 ];
 
 // The same of sub-agent 7.
-const OTHER_STREAM: [u8; 28] = [
-    0, 0, 0, 5, 0, 0, 0, 1, 10, 0, 0, 1, 0, 0, 0, 7, 0, 0, 0, 1, 0, 0, 3, 232, 0, 0, 0, 0,
+const OTHER_ENTRY: [u8; 40] = [
+    0, 0, 0, 0, 0, 0, 3, 232, 0, 0, 0, 28, 0, 0, 0, 5, 0, 0, 0, 1, 10, 0, 0, 1, 0, 0, 0, 7, 0, 0,
+    0, 1, 0, 0, 3, 232, 0, 0, 0, 0,
+];
+
+// The same without its last byte, and one byte of padding.
+const CUT_ENTRY: [u8; 40] = [
+    0, 0, 0, 0, 0, 0, 3, 232, 0, 0, 0, 27, 0, 0, 0, 5, 0, 0, 0, 1, 10, 0, 0, 1, 0, 0, 0, 0, 0, 0,
+    0, 1, 0, 0, 3, 232, 0, 0, 0, 0,
+];
+
+// The same with a padding byte that isn't zero.
+const BADLY_PADDED_ENTRY: [u8; 40] = [
+    0, 0, 0, 0, 0, 0, 3, 232, 0, 0, 0, 27, 0, 0, 0, 5, 0, 0, 0, 1, 10, 0, 0, 1, 0, 0, 0, 0, 0, 0,
+    0, 1, 0, 0, 3, 232, 0, 0, 0, 1,
 ];
 
 // The same with one sample of a format outside the standard, of one byte and the padding 1, 2, 3.
@@ -73,7 +89,7 @@ struct Case<'a> {
 const PLAIN: Case<'static> = Case {
     name: "",
     words: &["replay"],
-    input: &[&HEADER, &BEFORE_28, &DATAGRAM],
+    input: &[&HEADER, &ENTRY],
     piece: 4096,
     read_fails: &[],
     most: 4096,
@@ -85,7 +101,7 @@ const PLAIN: Case<'static> = Case {
 const CHECK: Case<'static> = Case {
     name: "",
     words: &["check"],
-    input: &[&HEADER, &BEFORE_28, &DATAGRAM],
+    input: &[&HEADER, &ENTRY],
     piece: 4096,
     read_fails: &[],
     most: 4096,
@@ -133,14 +149,14 @@ fn captures_are_replayed_in_any_pieces(rt: HostRuntime) -> Result<(), Fail> {
         },
         Case {
             name: "two streams in pieces of eight bytes",
-            input: &[&HEADER, &BEFORE_28, &DATAGRAM, &BEFORE_28, &OTHER_STREAM],
+            input: &[&HEADER, &ENTRY, &OTHER_ENTRY],
             piece: 8,
             taken: TWO_STREAMS,
             ..PLAIN
         },
         Case {
             name: "a second datagram of a stream",
-            input: &[&HEADER, &BEFORE_28, &DATAGRAM, &BEFORE_28, &DATAGRAM],
+            input: &[&HEADER, &ENTRY, &ENTRY],
             status: bad_input(48, InputKind::Unbuilt),
             taken: "",
             ..PLAIN
@@ -157,14 +173,14 @@ fn malformed_entries_are_counted(rt: HostRuntime) -> Result<(), Fail> {
     let cases = [
         Case {
             name: "a datagram without its last byte",
-            input: &[&HEADER, &BEFORE_27, &DATAGRAM[..27], &[0]],
+            input: &[&HEADER, &CUT_ENTRY],
             taken: "fault entry 1 at 24 kind short\n\
                     total entries 1 malformed 1 unlisted 0 unlisted_samples 0 other 0 taps_ended 0\n",
             ..PLAIN
         },
         Case {
             name: "version 4",
-            input: &[&HEADER, &BEFORE_28, &[0, 0, 0, 4], &[0; 24]],
+            input: &[&HEADER, &BEFORE, &[0, 0, 0, 4], &[0; 24]],
             taken: "fault entry 1 at 0 kind version\n\
                     total entries 1 malformed 1 unlisted 0 unlisted_samples 0 other 0 taps_ended 0\n",
             ..PLAIN
@@ -173,9 +189,8 @@ fn malformed_entries_are_counted(rt: HostRuntime) -> Result<(), Fail> {
             name: "an address of kind 3, behind a datagram",
             input: &[
                 &HEADER,
-                &BEFORE_28,
-                &DATAGRAM,
-                &BEFORE_28,
+                &ENTRY,
+                &BEFORE,
                 &[0, 0, 0, 5, 0, 0, 0, 3],
                 &[0; 20],
             ],
@@ -219,14 +234,7 @@ fn captures_are_checked(rt: HostRuntime) -> Result<(), Fail> {
         },
         Case {
             name: "a sound entry and a cut one",
-            input: &[
-                &HEADER,
-                &BEFORE_28,
-                &DATAGRAM,
-                &BEFORE_27,
-                &DATAGRAM[..27],
-                &[0],
-            ],
+            input: &[&HEADER, &ENTRY, &CUT_ENTRY],
             piece: 7,
             status: Status::Found,
             taken: "entry 2 at 24 kind short\nchecked 2 faulty 1\n",
@@ -265,21 +273,14 @@ fn checks_that_break_off_leave_their_lines(rt: HostRuntime) -> Result<(), Fail> 
     let cases = [
         Case {
             name: "an entry that breaks off behind a faulty one",
-            input: &[&HEADER, &BEFORE_27, &DATAGRAM[..27], &[0], &BEFORE_28],
+            input: &[&HEADER, &CUT_ENTRY, &BEFORE],
             status: bad_input(48, InputKind::Cut),
             taken: "entry 1 at 24 kind short\n",
             ..CHECK
         },
         Case {
             name: "a read that fails behind a faulty entry",
-            input: &[
-                &HEADER,
-                &BEFORE_27,
-                &DATAGRAM[..27],
-                &[0],
-                &BEFORE_28,
-                &DATAGRAM,
-            ],
+            input: &[&HEADER, &CUT_ENTRY, &ENTRY],
             piece: 8,
             read_fails: &[8],
             status: Status::ReadFault,
@@ -288,7 +289,7 @@ fn checks_that_break_off_leave_their_lines(rt: HostRuntime) -> Result<(), Fail> 
         },
         Case {
             name: "a sink of ten bytes",
-            input: &[&HEADER, &BEFORE_27, &DATAGRAM[..27], &[0]],
+            input: &[&HEADER, &CUT_ENTRY],
             most: 10,
             status: Status::WriteFault,
             taken: "entry 1 at",
@@ -375,7 +376,7 @@ fn other_inputs_are_refused(rt: HostRuntime) -> Result<(), Fail> {
         },
         Case {
             name: "a padding byte of an entry that isn't zero",
-            input: &[&HEADER, &BEFORE_27, &DATAGRAM[..27], &[1]],
+            input: &[&HEADER, &BADLY_PADDED_ENTRY],
             status: bad_input(47, InputKind::Padding),
             taken: "",
             ..PLAIN
@@ -425,7 +426,7 @@ fn try_beginning(
 #[test]
 fn beginnings_of_a_capture_are_refused_where_they_end(rt: HostRuntime) -> Result<(), Fail> {
     let alloc = rt.alloc();
-    let whole = joined(alloc, &[&HEADER, &BEFORE_28, &DATAGRAM])?;
+    let whole = joined(alloc, &[&HEADER, &ENTRY])?;
     assert_eq!(rt; whole.len(), 48);
     for length in 0..48usize {
         try_beginning(&rt, alloc, &whole[..length], "replay", NO_ENTRY)?;

@@ -1,6 +1,6 @@
 -- Runs of a command that writes for each entry as it is read.
-use Rattle.std.proofs.Common.{◌≡◌, ℕ, inl, inr, List, [], ◌++◌, Option, Some, Err, refl, sym, ap, subst, ◌∙◌, append_assoc}
-use Rattle.std.specs.Io.KnownBytes.{Appends}
+use Rattle.std.proofs.Common.{◌≡◌, ℕ, inl, inr, List, [], ◌++◌, Option, Some, Err, refl, sym, ap, subst, ◌∙◌, append_assoc, Bool, false, Ok}
+use Rattle.std.specs.Io.KnownBytes.{Appends, IsAtEnd}
 use Rattle.std.proofs.KnownBytes.{Appends-trans}
 use Rattle.wire_spec.specs.Bytes.{AreBytes}
 use Rattle.wire_spec.specs.Captures.{Entry}
@@ -12,13 +12,14 @@ use Rattle.sflow_io.proofs.Prefixes.{prefix_after}
 use Rattle.text_lines.specs.Pages.{Puts}
 use Rattle.command_words.specs.declared.command.Command.{Command}
 use Rattle.sflow_tool.specs.declared.status.Status.{Status}
-use Rattle.sflow_tool.specs.declared.status.Status.TheVariants.{ReadFault, WriteFault}
+use Rattle.sflow_tool.specs.declared.status.Status.TheVariants.{ReadFault, WriteFault, Done}
+use Rattle.sflow_tool.specs.declared.walk.Counts.{Counts}
 use Rattle.sflow_tool.specs.declared.walk.Stop.TheVariants as stops
 use Rattle.sflow_tool.specs.Endings.{Flushed, whole, part, refusal_status}
 use Rattle.sflow_tool.specs.Lines.{lines_of}
-use Rattle.sflow_tool.specs.Outputs.{Reads, Takes, WritesAtTheEnd, faulty, part_text, text_at}
+use Rattle.sflow_tool.specs.Outputs.{Reads, Takes, WritesAtTheEnd, faulty, part_text, text_at, finds, whole_text}
 use Rattle.sflow_tool.specs.Runs.{Runs}
-use Rattle.sflow_tool.specs.Walks.{HasWalkCause, Moved, WrotePart, WroteSome}
+use Rattle.sflow_tool.specs.Walks.{HasWalkCause, Moved, WrotePart, WroteSome, WroteAll}
 
 -- the text was put, and then what the page held was written
 pub put_whole : (a b c : Option (List ℕ)) (page held text : List ℕ) → page ≡ [] → Puts a b page held text
@@ -208,3 +209,57 @@ module _ (c : Command) (line : ℕ → Entry → List ℕ)
       (Runs c left left' a d read read' written written'')
       (sym is)
       (not_flushed (refusal_status refusal) (reads_so refusal told) d written'' some rose (cause.write_kept (λ e. cc)))
+
+  -- ---- all entries were read, and nothing more is to be written
+
+  all_read : (counts : Counts) (marks : Entry → Bool) (d : Option (List ℕ)) (written'' : ℕ)
+      → ((entries : List Entry) → lines_of line 1 entries ≡ whole_text c entries)
+      → ((entries : List Entry) → finds c entries ≡ false)
+      → ((input : List ℕ) → AreBytes input → left ≡ Some input
+      → WroteAll line marks input (record { taken = a; taken' = b; held = page; held' = held }) counts)
+      → IsAtEnd left' → HasWalkCause read read' written written' (Ok counts) → Appends b d held → written'' ≡ written'
+      → Runs c left left' a d read read' written written'' Done
+  all_read counts marks d written'' wholes none told at_end cause all kept = record {
+    may = tt;
+    ends = λ input are is.
+        let t = told input are is in
+        record {
+          entries = t.entries;
+          reads = record { taken = takes t.entries; ends = record { all = t.all; found_is = none t.entries } };
+          taken = subst (Appends a d) (wholes t.entries) (put_whole a b d page held _ empty t.put all);
+        };
+    at_end = λ e. at_end;
+    quiet = λ late. absurd (streams late);
+    early = λ first e. absurd cc;
+    read_fault = λ e. absurd cc;
+    read_kept = λ e late. cause.read_kept (λ e. cc);
+    write_fault = λ e. absurd cc;
+    write_kept = λ e. kept ∙ cause.write_kept (λ e. cc);
+  }
+
+  pub done_ends : (counts : Counts) (marks : Entry → Bool) (d : Option (List ℕ)) (written'' : ℕ) (result : Status)
+      → ((entries : List Entry) → lines_of line 1 entries ≡ whole_text c entries)
+      → ((entries : List Entry) → finds c entries ≡ false)
+      → ((input : List ℕ) → AreBytes input → left ≡ Some input
+      → WroteAll line marks input (record { taken = a; taken' = b; held = page; held' = held }) counts)
+      → IsAtEnd left' → HasWalkCause read read' written written' (Ok counts)
+      → Flushed b d held written' written'' Done result
+      → Runs c left left' a d read read' written written'' result
+  done_ends counts marks d written'' result wholes none told at_end cause (whole is all kept) =
+      subst
+      (Runs c left left' a d read read' written written'')
+      (sym is)
+      (all_read counts marks d written'' wholes none told at_end cause all kept)
+  done_ends counts marks d written'' result wholes none told at_end cause (part is some rose) =
+      subst
+      (Runs c left left' a d read read' written written'')
+      (sym is)
+      (not_flushed Done
+      (λ input are is.
+      let t = told input are is in
+      (
+        t.entries,
+        record { taken = takes t.entries; ends = record { all = t.all; found_is = none t.entries } },
+        subst (Puts a b page held) (wholes t.entries) t.put,
+      ))
+      d written'' some rose (cause.write_kept (λ e. cc)))

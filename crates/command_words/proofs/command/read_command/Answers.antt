@@ -10,7 +10,8 @@ returns-after-name-clause-command c =
     let words : List Text = map string_bytes c.args.words.now in
     elim c.match-name.branch [
       | in-Replay w ↦
-          replay_asked c.args.name words _ c.arguments-arguments.ensures c.if-not-are_lawful.ensures w.in-Replay.is ∙ ap (λ x. Some x) (sym w.result-is)
+          replay_asked c.args.name words _ c.arguments-arguments.ensures c.if-not-are_lawful.ensures w.in-Replay.is
+          ∙ ap (λ x. Some x) (sym w.result-is)
       | in-Check w ↦
           check_asked c.args.name words _ c.arguments-arguments.ensures c.if-not-are_lawful.ensures w.pad_in.result w.in-Check.is
           (λ pieces there lawful. w.pad_in.ensures (nat_lt 0 (count_of (codes "zero") pieces)) (c.in-Ok.ensures.flags (codes "zero") pieces there lawful))
