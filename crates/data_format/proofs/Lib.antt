@@ -4,3 +4,4 @@ pub mod Tables
 pub mod TableFrames
 pub mod Parts
 pub mod Samples
+pub mod Records

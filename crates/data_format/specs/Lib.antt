@@ -6,6 +6,7 @@ pub mod Ranges
 pub mod Trees
 pub mod Parts
 pub mod Samples
+pub mod Records
 pub use Rattle.wire_spec.specs.Heads
 pub use Rattle.wire_spec.specs.Tables
 pub use Rattle.xdr_words.specs.Readers

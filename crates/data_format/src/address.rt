@@ -1,13 +1,15 @@
-ghost use Rattle.std.specs.Prelude.{◌≡◌, IfOk, IfErr};
+ghost use Rattle.std.specs.Prelude.{◌≡◌, length, IfOk, IfErr};
 ghost use Rattle.wire_spec.specs.Spells.{Spells};
 ghost use Rattle.wire_spec.specs.Fails.{Fails};
 ghost use Rattle.wire_spec.specs.Heads.{address_tree};
 ghost use Rattle.wire_spec.specs.Reading.{reading};
+ghost use Rattle.wire_spec.specs.Spelling.{spell};
 ghost use Rattle.wire_spec.specs.Tables.{agent_address};
 ghost use Rattle.xdr_words.specs.Readers.{Reads, Passes, remaining};
+ghost use Rattle.xdr_words.specs.Written.{Puts};
 
 use wire_spec::{Fault, FaultKind};
-use xdr_words::Cursor;
+use xdr_words::{Cursor, Out, OutFull};
 
 /// The address of an agent (sFlow Version 5, section 5).
 #[derive(Clone, Copy, Debug, PartialEq, Eq)]
@@ -64,4 +66,45 @@ impl Address {
         *cursor = next;
         Ok(address)
     }
+
+    /// How many bytes its spelling has.
+    pub fn length(&self) -> usize
+        ensures { result ≡ length (spell (address_tree (address_of self.now))) }
+    {
+        match self {
+            Address::Unknown => 4,
+            Address::V4(bytes) => 4 + size_of_array(bytes),
+            Address::V6(bytes) => 4 + size_of_array(bytes),
+        }
+    }
+
+    /// Its spelling, whole or not at all: the word that says its kind, and its bytes.
+    pub fn write(&self, out: &mut Out<'_>) -> Result<(), OutFull>
+        ensures { Puts out.old out.new result (spell (address_tree (address_of self.now))) }
+    {
+        let need = self.length();
+        let room = out.left();
+        if room < need {
+            return Err(OutFull { need, room });
+        }
+        match self {
+            Address::Unknown => out.put_word(0),
+            Address::V4(bytes) => {
+                out.put_word(1)?;
+                out.put_fixed(bytes)
+            }
+            Address::V6(bytes) => {
+                out.put_word(2)?;
+                out.put_fixed(bytes)
+            }
+        }
+    }
+}
+
+// How many bytes an array has.
+fn size_of_array<const N: usize>(bytes: &[u8; N]) -> usize
+    ensures size { result ≡ N }
+    ensures length { length bytes.now ≡ N }
+{
+    bytes.len()
 }
