@@ -91,3 +91,8 @@ pub none_left : (count : ℕ) (b : Remaining) → count ≡ 0 → frames_in coun
 unfolding frames_in
 none_left zero b e = refl
 none_left (suc n) b e = absurd (omega arith)
+
+-- no frames are always there
+pub none_there : (b : Remaining) → AreFrames 0 b
+unfolding AreFrames
+none_there b = refl

@@ -1,3 +1,6 @@
 pub mod Again
 pub mod Ranges
 pub mod Tables
+pub mod TableFrames
+pub mod Parts
+pub mod Samples

@@ -1,8 +1,11 @@
 pub mod Addresses
+pub mod Compact
 pub mod Views
 pub mod Frames
 pub mod Ranges
 pub mod Trees
+pub mod Parts
+pub mod Samples
 pub use Rattle.wire_spec.specs.Heads
 pub use Rattle.wire_spec.specs.Tables
 pub use Rattle.xdr_words.specs.Readers

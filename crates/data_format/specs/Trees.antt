@@ -4,16 +4,17 @@ use Rattle.wire_spec.specs.declared.pad.Pad.{Pad}
 use Rattle.wire_spec.specs.declared.pad.Pad.TheVariants as pads
 use Rattle.wire_spec.specs.declared.fault.Fault.{Fault}
 use Rattle.wire_spec.specs.Shapes.{Table, Tree, other, Trees, none, ◌&◌}
-use Rattle.wire_spec.specs.Fails.{Remaining}
 use Rattle.wire_spec.specs.Reading.{◌>>=◌, inside_at}
-use Rattle.data_format.specs.Views.{FrameView}
-
-abbrev pub body_of : FrameView → Remaining
-body_of f = record { at = f.at; bytes = f.body }
+use Rattle.data_format.specs.Views.{FrameView, body_of}
+use Rattle.data_format.specs.Frames.{Test}
 
 -- the test of a table: the first fault of what it has for the format, or none
 abbrev pub table_test : Pad → Table → FrameView → Result (Unit {0}) Fault
 table_test p T f = inside_at p T f.format (body_of f) >>= λ _. Ok tt
+
+-- a test that is a table's
+abbrev pub IsTestOf : Pad → Table → Test → Type 0
+IsTestOf p T test = (f : FrameView) → test f ≡ table_test p T f
 
 abbrev pub tree_or : Tree → Result Tree Fault → Tree
 tree_or t (Ok x) = x

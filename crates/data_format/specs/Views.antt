@@ -1,5 +1,6 @@
 -- Formats and frames as contracts see them.
 use Rattle.std.specs.Prelude.{ℕ, ◌+◌, ◌*◌, ◌<◌, ◌^◌, List}
+use Rattle.wire_spec.specs.Fails.{Remaining}
 use Rattle.data_format.specs.declared.format.Format.{Format}
 use Rattle.data_format.specs.declared.format.Frame.{Frame}
 
@@ -19,3 +20,7 @@ pub record FrameView : Type 0 where
 
 abbrev pub frame_view : Frame → FrameView
 frame_view f = record { format = format_word f.format; body = f.body.now; at = f.at }
+
+-- the body at its place
+abbrev pub body_of : FrameView → Remaining
+body_of f = record { at = f.at; bytes = f.body }

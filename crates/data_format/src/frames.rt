@@ -1,6 +1,10 @@
-ghost use Rattle.std.specs.Prelude.{◌≡◌, [], ◌∷◌, ◌+◌, ◌<◌, ◌^◌, length, IfNone, IfSome, IfOk};
-ghost use Rattle.xdr_words.specs.Readers.{Reads, remaining};
+ghost use Rattle.std.specs.Prelude.{◌≡◌, [], ◌∷◌, ◌+◌, ◌<◌, ◌^◌, length, IfNone, IfSome, IfOk, IfErr};
+ghost use Rattle.wire_spec.specs.Fails.{Fails};
+ghost use Rattle.wire_spec.specs.Shapes.{array, frame, Table, Tree};
+ghost use Rattle.wire_spec.specs.Spells.{Spells};
+ghost use Rattle.xdr_words.specs.Readers.{Reads, Passes, remaining};
 ghost use Rattle.data_format.specs.Frames.{checked_at, frames_at};
+ghost use Rattle.data_format.specs.Trees.{IsTestOf, AllPass, frame_trees};
 ghost use Rattle.data_format.specs.Views.{IsFormat, frame_view};
 
 use crate::check::AnyBody;
@@ -42,6 +46,24 @@ impl<'a> Frames<'a> {
         check: &C,
     ) -> Result<Frames<'a>, Fault>
         requires { pad ≡ cursor.old.pad }
+        ensures exact { Reads (λ f. f) (λ f. f) cursor.old cursor.new result
+            (frames_at pad (λ f. C.test check.now pad f) (remaining cursor.old)) }
+
+        // Where the check's test is that of a table, they are an array of the table's frames.
+        ensures spelled { (T : Table) → IsTestOf pad T (λ f. C.test check.now pad f)
+            → IfOk result (λ fs. Passes (Spells pad (array (frame T)) (Tree.array (frame_trees T fs))) cursor.old cursor.new) }
+        ensures fault { (T : Table) → IsTestOf pad T (λ f. C.test check.now pad f)
+            → IfErr result (λ f. Fails pad (array (frame T)) (remaining cursor.old) f) }
+        ensures passes { (T : Table) → IsTestOf pad T (λ f. C.test check.now pad f) → IfOk result (λ fs. AllPass T fs) }
+    {
+        // It tells that what is left are bytes.
+        let _ = cursor.at();
+        Frames::take(cursor, pad, check)
+    }
+
+    // The same by the definition of frames that are read one after the other.
+    fn take<C: BodyCheck>(cursor: &mut Cursor<'a>, pad: Pad, check: &C) -> Result<Frames<'a>, Fault>
+        requires { pad ≡ cursor.old.pad }
         ensures { Reads (λ f. f) (λ f. f) cursor.old cursor.new result
             (frames_at pad (λ f. C.test check.now pad f) (remaining cursor.old)) }
     {
@@ -54,6 +76,17 @@ impl<'a> Frames<'a> {
         }
         *cursor = next;
         Ok(Frames { rest, at, count })
+    }
+
+    /// No frames.
+    pub fn none() -> Frames<'a>
+        ensures { result ≡ [] }
+    {
+        Frames {
+            rest: &[],
+            at: 0,
+            count: 0,
+        }
     }
 
     /// How many are left.

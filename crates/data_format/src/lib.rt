@@ -1,4 +1,5 @@
-//! The parts that the formats of sFlow share: addresses, formats, frames, and faults with their places.
+//! The parts that the formats of sFlow share: addresses, sources, ports, formats, frames, the heads of samples, and
+//! faults with their places.
 #![tactic(auto)]
 
 mod address;
@@ -6,10 +7,20 @@ mod check;
 mod failed;
 mod format;
 mod frames;
+mod heads;
+mod laws;
+mod mac;
+mod port;
+mod source;
 
 pub use address::Address;
 pub use check::BodyCheck;
 pub use failed::Failed;
 pub use format::{Format, Frame};
 pub use frames::Frames;
+pub use heads::{CountersHead, FlowHead, Form};
+pub use laws::{one_head_of_a_sample, ranges_within_ranges, samples_over_all_records};
+pub use mac::Mac;
+pub use port::Port;
+pub use source::SourceId;
 pub use wire_spec::{Fault, FaultKind};

@@ -5,10 +5,25 @@ use std::test::Fail;
 // The magic and version 1.
 const HEADER: [u8; 8] = *b"SFLC\0\0\0\x01";
 
-// Arrival 1,000 ms, 28 bytes: version 5, agent 10.0.0.1, sub-agent 0, sequence number 1, uptime 1,000 ms, no samples.
-const ENTRY: [u8; 40] = [
-    0, 0, 0, 0, 0, 0, 3, 232, 0, 0, 0, 28, 0, 0, 0, 5, 0, 0, 0, 1, 10, 0, 0, 1, 0, 0, 0, 0, 0, 0,
-    0, 1, 0, 0, 3, 232, 0, 0, 0, 0,
+// Arrival 1,000 ms, and the length of a datagram.
+const BEFORE_28: [u8; 12] = [0, 0, 0, 0, 0, 0, 3, 232, 0, 0, 0, 28];
+
+const BEFORE_27: [u8; 12] = [0, 0, 0, 0, 0, 0, 3, 232, 0, 0, 0, 27];
+
+// Version 5, agent 10.0.0.1, sub-agent 0, sequence number 1, uptime 1,000 ms, no samples.
+const DATAGRAM: [u8; 28] = [
+    0, 0, 0, 5, 0, 0, 0, 1, 10, 0, 0, 1, 0, 0, 0, 0, 0, 0, 0, 1, 0, 0, 3, 232, 0, 0, 0, 0,
+];
+
+// The same of sub-agent 7.
+const OTHER_STREAM: [u8; 28] = [
+    0, 0, 0, 5, 0, 0, 0, 1, 10, 0, 0, 1, 0, 0, 0, 7, 0, 0, 0, 1, 0, 0, 3, 232, 0, 0, 0, 0,
+];
+
+// The same with one sample of a format outside the standard, of one byte and the padding 1, 2, 3.
+const PADDED: [u8; 52] = [
+    0, 0, 0, 0, 0, 0, 3, 232, 0, 0, 0, 40, 0, 0, 0, 5, 0, 0, 0, 1, 10, 0, 0, 1, 0, 0, 0, 0, 0, 0,
+    0, 1, 0, 0, 3, 232, 0, 0, 0, 1, 1, 19, 208, 7, 0, 0, 0, 1, 255, 1, 2, 3,
 ];
 
 const NO_ENTRY: &str =
@@ -18,6 +33,11 @@ const ONE_ENTRY: &str =
     "stream 1 agent 10.0.0.1 sub 0 boots 1 issued 1 received 1 pending 0 lost 0 repeated 0 late 0 stale 0\n\
      total entries 1 malformed 0 unlisted 0 unlisted_samples 0 other 0 taps_ended 0\n";
 
+const TWO_STREAMS: &str =
+    "stream 1 agent 10.0.0.1 sub 0 boots 1 issued 1 received 1 pending 0 lost 0 repeated 0 late 0 stale 0\n\
+     stream 2 agent 10.0.0.1 sub 7 boots 1 issued 1 received 1 pending 0 lost 0 repeated 0 late 0 stale 0\n\
+     total entries 2 malformed 0 unlisted 0 unlisted_samples 0 other 0 taps_ended 0\n";
+
 fn words(alloc: Global, texts: &[&str]) -> Result<Vec<String>, Fail> {
     let mut words = Vec::new(alloc);
     for text in texts {
@@ -26,7 +46,7 @@ fn words(alloc: Global, texts: &[&str]) -> Result<Vec<String>, Fail> {
     Ok(words)
 }
 
-fn capture(alloc: Global, parts: &[&[u8]]) -> Result<Vec<u8>, Fail> {
+fn joined(alloc: Global, parts: &[&[u8]]) -> Result<Vec<u8>, Fail> {
     let mut bytes = Vec::new(alloc);
     for part in parts {
         bytes.extend_from_slice(part)?;
@@ -53,7 +73,7 @@ struct Case<'a> {
 const PLAIN: Case<'static> = Case {
     name: "",
     words: &["replay"],
-    input: &[&HEADER, &ENTRY],
+    input: &[&HEADER, &BEFORE_28, &DATAGRAM],
     piece: 4096,
     read_fails: &[],
     most: 4096,
@@ -62,14 +82,25 @@ const PLAIN: Case<'static> = Case {
     taken: ONE_ENTRY,
 };
 
-const UNBUILT: Status = Status::BadInput {
-    at: 0,
-    kind: InputKind::Unbuilt,
+const CHECK: Case<'static> = Case {
+    name: "",
+    words: &["check"],
+    input: &[&HEADER, &BEFORE_28, &DATAGRAM],
+    piece: 4096,
+    read_fails: &[],
+    most: 4096,
+    write_fails: &[],
+    status: Status::Done,
+    taken: "checked 1 faulty 0\n",
 };
+
+fn bad_input(at: u128, kind: InputKind) -> Status {
+    Status::BadInput { at, kind }
+}
 
 fn try_case(rt: &impl std::process::Abort, alloc: Global, case: &Case<'_>) -> Result<(), Fail> {
     let words = words(alloc, case.words)?;
-    let input = capture(alloc, case.input)?;
+    let input = joined(alloc, case.input)?;
     let reads = Vec::from_slice(alloc, case.read_fails)?;
     let writes = Vec::from_slice(alloc, case.write_fails)?;
     let mut source = MemorySource::new(input, case.piece.max(1), reads);
@@ -101,9 +132,167 @@ fn captures_are_replayed_in_any_pieces(rt: HostRuntime) -> Result<(), Fail> {
             ..PLAIN
         },
         Case {
-            name: "pieces of eight bytes",
+            name: "two streams in pieces of eight bytes",
+            input: &[&HEADER, &BEFORE_28, &DATAGRAM, &BEFORE_28, &OTHER_STREAM],
             piece: 8,
+            taken: TWO_STREAMS,
             ..PLAIN
+        },
+        Case {
+            name: "a second datagram of a stream",
+            input: &[&HEADER, &BEFORE_28, &DATAGRAM, &BEFORE_28, &DATAGRAM],
+            status: bad_input(48, InputKind::Unbuilt),
+            taken: "",
+            ..PLAIN
+        },
+    ];
+    for case in &cases {
+        try_case(&rt, rt.alloc(), case)?;
+    }
+    Ok(())
+}
+
+#[test]
+fn malformed_entries_are_counted(rt: HostRuntime) -> Result<(), Fail> {
+    let cases = [
+        Case {
+            name: "a datagram without its last byte",
+            input: &[&HEADER, &BEFORE_27, &DATAGRAM[..27], &[0]],
+            taken: "fault entry 1 at 24 kind short\n\
+                    total entries 1 malformed 1 unlisted 0 unlisted_samples 0 other 0 taps_ended 0\n",
+            ..PLAIN
+        },
+        Case {
+            name: "version 4",
+            input: &[&HEADER, &BEFORE_28, &[0, 0, 0, 4], &[0; 24]],
+            taken: "fault entry 1 at 0 kind version\n\
+                    total entries 1 malformed 1 unlisted 0 unlisted_samples 0 other 0 taps_ended 0\n",
+            ..PLAIN
+        },
+        Case {
+            name: "an address of kind 3, behind a datagram",
+            input: &[
+                &HEADER,
+                &BEFORE_28,
+                &DATAGRAM,
+                &BEFORE_28,
+                &[0, 0, 0, 5, 0, 0, 0, 3],
+                &[0; 20],
+            ],
+            taken: "stream 1 agent 10.0.0.1 sub 0 boots 1 issued 1 received 1 pending 0 lost 0 repeated 0 late 0 stale 0\n\
+                    fault entry 2 at 4 kind address\n\
+                    total entries 2 malformed 1 unlisted 0 unlisted_samples 0 other 0 taps_ended 0\n",
+            ..PLAIN
+        },
+        Case {
+            name: "four bytes behind the datagram",
+            input: &[
+                &HEADER,
+                &[0, 0, 0, 0, 0, 0, 3, 232, 0, 0, 0, 32],
+                &DATAGRAM,
+                &[0; 4],
+            ],
+            taken: "fault entry 1 at 28 kind trailing\n\
+                    total entries 1 malformed 1 unlisted 0 unlisted_samples 0 other 0 taps_ended 0\n",
+            ..PLAIN
+        },
+        Case {
+            name: "no bytes",
+            input: &[&HEADER, &[0; 12]],
+            taken: "fault entry 1 at 0 kind short\n\
+                    total entries 1 malformed 1 unlisted 0 unlisted_samples 0 other 0 taps_ended 0\n",
+            ..PLAIN
+        },
+    ];
+    for case in &cases {
+        try_case(&rt, rt.alloc(), case)?;
+    }
+    Ok(())
+}
+
+#[test]
+fn captures_are_checked(rt: HostRuntime) -> Result<(), Fail> {
+    let cases = [
+        Case {
+            name: "a sound entry",
+            ..CHECK
+        },
+        Case {
+            name: "a sound entry and a cut one",
+            input: &[
+                &HEADER,
+                &BEFORE_28,
+                &DATAGRAM,
+                &BEFORE_27,
+                &DATAGRAM[..27],
+                &[0],
+            ],
+            piece: 7,
+            status: Status::Found,
+            taken: "entry 2 at 24 kind short\nchecked 2 faulty 1\n",
+            ..CHECK
+        },
+        Case {
+            name: "padding that isn't zero, which is free",
+            input: &[&HEADER, &PADDED],
+            ..CHECK
+        },
+    ];
+    for case in &cases {
+        try_case(&rt, rt.alloc(), case)?;
+    }
+    Ok(())
+}
+
+#[test]
+fn zero_padding_is_asked_for(rt: HostRuntime) -> Result<(), Fail> {
+    let case = Case {
+        name: "padding that isn't zero and must be",
+        words: &["check", "--zero"],
+        input: &[&HEADER, &PADDED],
+        piece: 4096,
+        read_fails: &[],
+        most: 4096,
+        write_fails: &[],
+        status: Status::Found,
+        taken: "entry 1 at 37 kind pad\nchecked 1 faulty 1\n",
+    };
+    try_case(&rt, rt.alloc(), &case)
+}
+
+#[test]
+fn checks_that_break_off_leave_their_lines(rt: HostRuntime) -> Result<(), Fail> {
+    let cases = [
+        Case {
+            name: "an entry that breaks off behind a faulty one",
+            input: &[&HEADER, &BEFORE_27, &DATAGRAM[..27], &[0], &BEFORE_28],
+            status: bad_input(48, InputKind::Cut),
+            taken: "entry 1 at 24 kind short\n",
+            ..CHECK
+        },
+        Case {
+            name: "a read that fails behind a faulty entry",
+            input: &[
+                &HEADER,
+                &BEFORE_27,
+                &DATAGRAM[..27],
+                &[0],
+                &BEFORE_28,
+                &DATAGRAM,
+            ],
+            piece: 8,
+            read_fails: &[8],
+            status: Status::ReadFault,
+            taken: "entry 1 at 24 kind short\n",
+            ..CHECK
+        },
+        Case {
+            name: "a sink of ten bytes",
+            input: &[&HEADER, &BEFORE_27, &DATAGRAM[..27], &[0]],
+            most: 10,
+            status: Status::WriteFault,
+            taken: "entry 1 at",
+            ..CHECK
         },
     ];
     for case in &cases {
@@ -157,43 +346,96 @@ fn faults_end_the_run(rt: HostRuntime) -> Result<(), Fail> {
 fn other_inputs_are_refused(rt: HostRuntime) -> Result<(), Fail> {
     let cases = [
         Case {
-            name: "no bytes",
-            input: &[],
-            status: UNBUILT,
-            taken: "",
-            ..PLAIN
-        },
-        Case {
             name: "another magic",
             input: &[b"SFLX\0\0\0\x01"],
-            status: UNBUILT,
+            status: bad_input(0, InputKind::Magic),
             taken: "",
             ..PLAIN
         },
         Case {
-            name: "a cut entry",
-            input: &[&HEADER, &ENTRY[..32]],
-            status: UNBUILT,
+            name: "another version",
+            input: &[b"SFLC\0\0\0\x02"],
+            status: bad_input(4, InputKind::Version),
             taken: "",
             ..PLAIN
         },
         Case {
-            name: "a byte behind",
-            input: &[&HEADER, &ENTRY, &[0]],
-            status: UNBUILT,
+            name: "four bytes of an entry",
+            input: &[&HEADER, &[0; 4]],
+            status: bad_input(8, InputKind::Cut),
             taken: "",
             ..PLAIN
         },
         Case {
-            name: "two entries",
-            input: &[&HEADER, &ENTRY, &ENTRY],
-            status: UNBUILT,
+            name: "an entry of 65,536 bytes",
+            input: &[&HEADER, &[0, 0, 0, 0, 0, 0, 3, 232, 0, 1, 0, 0]],
+            status: bad_input(16, InputKind::Long),
+            taken: "",
+            ..PLAIN
+        },
+        Case {
+            name: "a padding byte of an entry that isn't zero",
+            input: &[&HEADER, &BEFORE_27, &DATAGRAM[..27], &[1]],
+            status: bad_input(47, InputKind::Padding),
             taken: "",
             ..PLAIN
         },
     ];
     for case in &cases {
         try_case(&rt, rt.alloc(), case)?;
+    }
+    Ok(())
+}
+
+// What comes of the first bytes of a capture of one entry, so many of its 48.
+fn status_of_a_beginning(length: usize) -> Status {
+    if length < 4 {
+        return bad_input(0, InputKind::Magic);
+    }
+    if length < 8 {
+        return bad_input(4, InputKind::Version);
+    }
+    if length == 8 {
+        return Status::Done;
+    }
+    bad_input(8, InputKind::Cut)
+}
+
+fn try_beginning(
+    rt: &impl std::process::Abort,
+    alloc: Global,
+    bytes: &[u8],
+    word: &str,
+    no_entries: &str,
+) -> Result<(), Fail> {
+    let case = Case {
+        name: "a beginning",
+        words: &[word],
+        input: &[bytes],
+        piece: 4096,
+        read_fails: &[],
+        most: 4096,
+        write_fails: &[],
+        status: status_of_a_beginning(bytes.len()),
+        taken: if bytes.len() == 8 { no_entries } else { "" },
+    };
+    try_case(rt, alloc, &case)
+}
+
+#[test]
+fn beginnings_of_a_capture_are_refused_where_they_end(rt: HostRuntime) -> Result<(), Fail> {
+    let alloc = rt.alloc();
+    let whole = joined(alloc, &[&HEADER, &BEFORE_28, &DATAGRAM])?;
+    assert_eq!(rt; whole.len(), 48);
+    for length in 0..48usize {
+        try_beginning(&rt, alloc, &whole[..length], "replay", NO_ENTRY)?;
+        try_beginning(
+            &rt,
+            alloc,
+            &whole[..length],
+            "check",
+            "checked 0 faulty 0\n",
+        )?;
     }
     Ok(())
 }
@@ -225,6 +467,8 @@ fn other_words_are_usage(rt: HostRuntime) -> Result<(), Fail> {
         usage(&["trial", "--made", "7"]),
         usage(&["collect"]),
         usage(&["--help"]),
+        usage(&["check", "--zero", "--zero"]),
+        usage(&["check", "--zero="]),
     ];
     for case in &cases {
         try_case(&rt, rt.alloc(), case)?;
@@ -232,36 +476,43 @@ fn other_words_are_usage(rt: HostRuntime) -> Result<(), Fail> {
     Ok(())
 }
 
+fn try_status(rt: &impl std::process::Abort, status: Status, code: u8, text: &str) {
+    let line: Line = status.text();
+    assert_eq!(rt; status.code(), code);
+    assert_eq!(rt; line.as_str().as_bytes(), text.as_bytes());
+}
+
 #[test]
-fn statuses_have_codes_and_texts(rt: HostRuntime) -> Result<(), Fail> {
-    let padding = Status::BadInput {
-        at: 47,
-        kind: InputKind::Padding,
-    };
-    let far = Status::BadInput {
-        at: u128::MAX,
-        kind: InputKind::Unbuilt,
-    };
-    let cases = [
-        (Status::Done, 0, ""),
-        (Status::Found, 1, ""),
-        (Status::Usage, 2, "usage"),
-        (Status::ReadFault, 3, "read fault"),
-        (Status::WriteFault, 4, "write fault"),
-        (padding, 5, "bad input at 47 kind padding"),
-        (
-            far,
-            5,
-            "bad input at 340282366920938463463374607431768211455 kind unbuilt",
-        ),
-        (Status::Memory, 6, "out of memory"),
-        (Status::LinkFault, 7, "link fault"),
-        (Status::Spent, 8, "too many entries"),
-    ];
-    for (status, code, text) in cases {
-        let line: Line = status.text();
-        assert_eq!(rt; status.code(), code, "code of {text}");
-        assert_eq!(rt; line.as_str(), text);
-    }
-    Ok(())
+fn statuses_have_codes_and_texts(rt: HostRuntime) {
+    try_status(&rt, Status::Done, 0, "");
+    try_status(&rt, Status::Found, 1, "");
+    try_status(&rt, Status::Usage, 2, "usage");
+    try_status(&rt, Status::ReadFault, 3, "read fault");
+    try_status(&rt, Status::WriteFault, 4, "write fault");
+    try_status(&rt, Status::Memory, 6, "out of memory");
+    try_status(&rt, Status::LinkFault, 7, "link fault");
+    try_status(&rt, Status::Spent, 8, "too many entries");
+}
+
+#[test]
+fn bad_input_names_the_place(rt: HostRuntime) {
+    let magic = bad_input(0, InputKind::Magic);
+    try_status(&rt, magic, 5, "bad input at 0 kind magic");
+    let version = bad_input(4, InputKind::Version);
+    try_status(&rt, version, 5, "bad input at 4 kind version");
+    let cut = bad_input(8, InputKind::Cut);
+    try_status(&rt, cut, 5, "bad input at 8 kind cut");
+    let long = bad_input(16, InputKind::Long);
+    try_status(&rt, long, 5, "bad input at 16 kind long");
+    let padding = bad_input(47, InputKind::Padding);
+    try_status(&rt, padding, 5, "bad input at 47 kind padding");
+    let script = bad_input(1, InputKind::Script);
+    try_status(&rt, script, 5, "bad input at 1 kind script");
+    let far = bad_input(u128::MAX, InputKind::Unbuilt);
+    try_status(
+        &rt,
+        far,
+        5,
+        "bad input at 340282366920938463463374607431768211455 kind unbuilt",
+    );
 }

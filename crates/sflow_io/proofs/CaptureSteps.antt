@@ -51,12 +51,14 @@ module _ (bytes : List ℕ) (are : AreBytes bytes) (entries : List Entry) where
               length-entry_bytes e,
             ))
 
-    broken_behind : (offset at within : ℕ) (kind : InputKind) → offset ≡ length (capture_bytes entries)
+    broken_behind : (offset at within : ℕ) (kind : InputKind) → length entries < 2 ^ 48
+        → offset ≡ length (capture_bytes entries)
         → front_of rest ≡ Breaks within kind → at ≡ offset + within → FaultBehind entries bytes at kind
-    broken_behind offset at within kind offset_is front place =
+    broken_behind offset at within kind few offset_is front place =
         let at_is : length (capture_bytes entries) + within ≡ at = omega (arith, offset_is, place) in
         let shown = front_shows rest (rest_bytes (capture_bytes entries) rest (subst AreBytes before.whole are)) in
         record {
+          few = few;
           fault = subst (λ n. CaptureFault bytes n kind) at_is
               (walk_breaks entries rest bytes within kind are before front);
           behind = inr (record {
@@ -75,9 +77,9 @@ module _ (bytes : List ℕ) (are : AreBytes bytes) (entries : List Entry) where
     front_given count offset room left (Ok (next.Entry at len)) count_is offset_is few a =
         entry_given count offset at len room left count_is offset_is few a
     front_given count offset room left (Ok next.End) count_is offset_is few a =
-        walk_stops entries rest bytes are before a
+        record { few = omega (arith, few, count_is); capture = walk_stops entries rest bytes are before a }
     front_given count offset room left (Err (refusal.BadInput at kind)) count_is offset_is few a =
-        broken_behind offset at a.0 kind offset_is a.1 a.2
+        broken_behind offset at a.0 kind (omega (arith, few, count_is)) offset_is a.1 a.2
     front_given count offset room left (Err refusal.ReadFault) count_is offset_is few a = inr (rest, before)
     front_given count offset room left (Err refusal.Spent) count_is offset_is few a = absurd a
 
@@ -91,7 +93,8 @@ module _ (bytes : List ℕ) (are : AreBytes bytes) (entries : List Entry) where
         → length entries ≡ 2 ^ 48 → AnswersLast rest answer
         → HasGiven bytes (with_answer entries room answer) (stage_after (stage.Within count offset) answer) left
     last_given count offset room left (Ok (next.Entry at len)) number a = absurd a
-    last_given count offset room left (Ok next.End) number a = all_read a
+    last_given count offset room left (Ok next.End) number a =
+        record { few = omega (arith, number); capture = all_read a }
     last_given count offset room left (Err (refusal.BadInput at kind)) number a = absurd a
     last_given count offset room left (Err refusal.ReadFault) number a = inr (rest, before)
     last_given count offset room left (Err refusal.Spent) number a =
@@ -105,7 +108,7 @@ module _ (bytes : List ℕ) (are : AreBytes bytes) (entries : List Entry) where
   refused room left (Ok (next.Entry at len)) none not a = absurd a
   refused room left (Ok next.End) none not a = absurd a
   refused room left (Err (refusal.BadInput at kind)) none not a =
-      record { fault = a; behind = inl (none, not) }
+      record { few = omega (arith, ap length none); fault = a; behind = inl (none, not) }
   refused room left (Err refusal.ReadFault) none not a = inl none
   refused room left (Err refusal.Spent) none not a = absurd a
 

@@ -1,6 +1,8 @@
 -- What a room that was filled says of bytes that are told.
 use Rattle.std.proofs.Common.{◌≡◌, ℕ, ◌<◌, ◌≤◌, inl, inr, List, ◌++◌, length, take, drop, Option, Some, None, refl, sym, ap, ◌∙◌, append-nil, arith, take_all, take_at, drop_at, length-append, length-take-le}
 use Rattle.std.proofs.lemmas.Bool.{cases_lt}
+use Rattle.std.proofs.lemmas.List.{nil_from_length}
+use Rattle.std.specs.Io.KnownBytes.{IsAtEnd, prepend_known}
 use Rattle.sflow_io.specs.Streams.{Fills}
 
 same_list : (a b : List ℕ) → Some a ≡ Some b → a ≡ b
@@ -52,3 +54,8 @@ front_read old new count room bytes told f =
           take_all (length room) bytes (omega (arith, h.number)) ∙ h.all
       | inr full ↦ (full_room old new count room bytes told f full).front ∙ sym (take_all count room full)
     ]
+
+-- where nothing is held and nothing is left, the source is at its end
+pub behind_held : (held : List ℕ) (left : Option (List ℕ)) → IsAtEnd (prepend_known held left) → IsAtEnd left
+behind_held held None end = tt
+behind_held held (Some xs) end = nil_from_length xs (omega (arith, ap length end, length-append held xs))

@@ -1,6 +1,6 @@
 -- What a reader of a capture answers, by what is left to read.
 use Rattle.std.specs.Prelude.{◌≡◌, ◌≢◌, ⊤, ℕ, ◌+◌, ◌*◌, ◌^◌, ◌<◌, ◌≤◌, List, [], ◌++◌, length, take, Option, Some, Result, Ok, Err}
-use Rattle.std.specs.Io.KnownBytes.{prepend_known}
+use Rattle.std.specs.Io.KnownBytes.{IsAtEnd, prepend_known}
 use Rattle.wire_spec.specs.Bytes.{BeginsWith}
 use Rattle.wire_spec.specs.Captures.{capture_header, CaptureFault}
 use Rattle.wire_spec.specs.CaptureReading.{Front, Stops, Holds, Breaks, front_of}
@@ -54,6 +54,12 @@ abbrev pub IsNoEntry : Answer → Type 0
 IsNoEntry (Ok (next.Entry at len)) = ⊥
 IsNoEntry (Ok next.End) = ⊤
 IsNoEntry (Err e) = ⊤
+
+-- behind the end the source has nothing left
+abbrev pub EndsSource : Answer → Option (List ℕ) → Type 0
+EndsSource (Ok (next.Entry at len)) left = ⊤
+EndsSource (Ok next.End) left = IsAtEnd left
+EndsSource (Err e) left = ⊤
 
 -- an entry has at most 65,535 bytes
 abbrev pub IsShortEntry : Answer → Type 0

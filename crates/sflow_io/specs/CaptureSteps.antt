@@ -28,10 +28,16 @@ pub record BreaksBehind (entries : List Entry) (bytes : List ℕ) (at : ℕ) (ki
   pub broken : IsBroken rest within kind
   pub place : at ≡ length (capture_bytes entries) + within
 
--- the fault of the bytes stands behind these entries: there are none where the header is broken
+-- the fault of the bytes stands behind these entries, fewer than 2^48: there are none where the header is broken
 pub record FaultBehind (entries : List Entry) (bytes : List ℕ) (at : ℕ) (kind : InputKind) : Type 0 where
+  pub few : length entries < 2 ^ 48
   pub fault : CaptureFault bytes at kind
   pub behind : ((entries ≡ []) × ¬ (BeginsWith bytes (capture_header 1))) ⊎ BreaksBehind entries bytes at kind
+
+-- the bytes are a capture of these entries, at most 2^48
+pub record IsAllOf (entries : List Entry) (bytes : List ℕ) : Type 0 where
+  pub few : length entries ≤ 2 ^ 48
+  pub capture : Capture entries bytes
 
 -- 2^48 entries, and a further byte
 pub record GoesOn (entries : List Entry) (bytes : List ℕ) : Type 0 where
@@ -43,7 +49,7 @@ pub record GoesOn (entries : List Entry) (bytes : List ℕ) : Type 0 where
 -- what the last answer says of the bytes, where these entries were given before it
 abbrev pub EndsAt : List Entry → List ℕ → Answer → Type 0
 EndsAt entries bytes (Ok (next.Entry at len)) = ⊥
-EndsAt entries bytes (Ok next.End) = Capture entries bytes
+EndsAt entries bytes (Ok next.End) = IsAllOf entries bytes
 EndsAt entries bytes (Err (refusal.BadInput at kind)) = FaultBehind entries bytes at kind
 EndsAt entries bytes (Err refusal.Spent) = GoesOn entries bytes
 EndsAt entries bytes (Err refusal.ReadFault) = BeginsWithEntries bytes entries

@@ -4,7 +4,7 @@ ghost use Rattle.sflow_io.specs.declared.capture.Stage.TheVariants.{Start, Ended
 ghost use Rattle.wire_spec.specs.Bytes.{AreBytes};
 ghost use Rattle.wire_spec.specs.Captures.{Entry};
 ghost use Rattle.sflow_io.specs.CaptureSteps.{HasGiven, with_answer};
-ghost use Rattle.sflow_io.specs.CaptureAnswers.{Answer, Answers, AnswersStart, HasEnded, HasReadCause, LeadsOn, IsPlaced, IsShortEntry, KeepsLimits, ReaderState, length_with_padding, stage_after, unread};
+ghost use Rattle.sflow_io.specs.CaptureAnswers.{Answer, Answers, AnswersStart, EndsSource, HasEnded, HasReadCause, LeadsOn, IsPlaced, IsShortEntry, KeepsLimits, ReaderState, length_with_padding, stage_after, unread};
 
 use crate::capture_header::read_header;
 use crate::entry_reader::{read_end, read_entry};
@@ -67,6 +67,7 @@ impl CaptureReader {
             → Answers self.old.stage bytes room.new (unread self.new (S.left source.new)) result }
         ensures stage { self.new.stage ≡ stage_after self.old.stage result }
         ensures length { IsShortEntry result }
+        ensures at_end { ¬ (HasEnded self.old.stage) → EndsSource result (S.left source.new) }
         ensures leads_on { LeadsOn self.old.stage self.new.stage result }
 
         // The last answer comes again.
@@ -100,6 +101,7 @@ fn read_from<S: Source>(
     ensures told { (bytes : List ℕ) → prepend_known ahead.old (S.left source.old) ≡ Some bytes
         → Answers stage bytes room.new (prepend_known ahead.new (S.left source.new)) result }
     ensures limits { KeepsLimits stage result }
+    ensures at_end { ¬ (HasEnded stage) → EndsSource result (S.left source.new) }
     ensures again { (last : Answer) → stage ≡ Ended last → result ≡ last }
     ensures unmoved { HasEnded stage
         → (ahead.new ≡ ahead.old) × (source.new ≡ source.old) × (room.new ≡ room.old) }
@@ -128,6 +130,7 @@ fn read_first<S: Source>(
     ensures told { (bytes : List ℕ) → prepend_known ahead.old (S.left source.old) ≡ Some bytes
         → AnswersStart bytes room.new (prepend_known ahead.new (S.left source.new)) result }
     ensures short { IsShortEntry result }
+    ensures at_end { EndsSource result (S.left source.new) }
     ensures cause { HasReadCause (S.faults source.old) (S.faults source.new) result }
 {
     if let Err(refusal) = read_header(ahead, source) {

@@ -3,7 +3,7 @@ ghost use Rattle.std.specs.Prelude.{◌≡◌, ◌+◌, ◌^◌, ◌<◌, ◌≤
 ghost use Rattle.std.specs.Int.{w32, w64, from_be_bytes};
 ghost use Rattle.std.specs.Io.KnownBytes.{prepend_known};
 ghost use Rattle.wire_spec.specs.CaptureReading.{first_nonzero, front_of, front_of_body, front_of_padding};
-ghost use Rattle.sflow_io.specs.CaptureAnswers.{AnswersFront, AnswersLast, HasReadCause, IsNoEntry, IsShortEntry};
+ghost use Rattle.sflow_io.specs.CaptureAnswers.{AnswersFront, AnswersLast, EndsSource, HasReadCause, IsNoEntry, IsShortEntry};
 
 use crate::read_ahead::ReadAhead;
 use crate::{InputKind, Next, ReadRefusal, Source};
@@ -45,6 +45,7 @@ fn read_padding<S: Source>(
         → AnswersFront offset (front_of_padding at (take len room.now) bytes) room.now
         (prepend_known ahead.new (S.left source.new)) result }
     ensures short { IsShortEntry result }
+    ensures at_end { EndsSource result (S.left source.new) }
     ensures cause { HasReadCause (S.faults source.old) (S.faults source.new) result }
 {
     let most = (4 - len % 4) % 4;
@@ -84,6 +85,7 @@ fn read_body<S: Source>(
         → AnswersFront offset (front_of_body at len bytes) room.new
         (prepend_known ahead.new (S.left source.new)) result }
     ensures short { IsShortEntry result }
+    ensures at_end { EndsSource result (S.left source.new) }
     ensures cause { HasReadCause (S.faults source.old) (S.faults source.new) result }
 {
     let Ok(count) = ahead.read_most(source, &mut room[..len]) else {
@@ -110,6 +112,7 @@ pub(crate) fn read_entry<S: Source>(
     ensures told { (bytes : List ℕ) → prepend_known ahead.old (S.left source.old) ≡ Some bytes
         → AnswersFront offset (front_of bytes) room.new (prepend_known ahead.new (S.left source.new)) result }
     ensures short { IsShortEntry result }
+    ensures at_end { EndsSource result (S.left source.new) }
     ensures cause { HasReadCause (S.faults source.old) (S.faults source.new) result }
 {
     let mut head = [0u8; 12];
@@ -144,6 +147,7 @@ pub(crate) fn read_end<S: Source>(
     ensures told { (bytes : List ℕ) → prepend_known ahead.old (S.left source.old) ≡ Some bytes
         → AnswersLast bytes result }
     ensures none { IsNoEntry result }
+    ensures at_end { EndsSource result (S.left source.new) }
     ensures cause { HasReadCause (S.faults source.old) (S.faults source.new) result }
 {
     let mut byte = [0u8; 1];

@@ -1,5 +1,12 @@
-pub mod Entries
-pub mod Captures
 pub mod Reports
-pub mod Plans
-pub mod Endings
+pub mod Walked
+pub mod Streams
+pub mod Ends
+pub mod Distinct
+pub mod Counted
+pub mod WriterRuns
+pub mod CheckRuns
+pub mod ReplayRuns
+pub mod OneEnding
+pub mod Completed
+pub mod ItemLaws

@@ -1,15 +1,20 @@
 //! The commands of `sflow`: what the words ask for, done from a source to a sink, with a status.
 #![tactic(auto)]
 
-mod capture;
-mod command;
+mod check;
+mod ending;
+mod faults;
+mod item;
+mod laws;
 mod replay;
 mod report;
 mod status;
+mod tally;
 mod top;
+mod walk;
 
-pub use command::Command;
-pub use replay::one_report;
+pub use command_words::Command;
+pub use laws::{items_are_exact, one_ending};
 pub use sflow_io::{Failed, InputSource, MemorySink, MemorySource, OutputSink, Sink, Source};
 pub use status::{Line, Status};
 pub use top::run;

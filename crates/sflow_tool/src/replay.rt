@@ -1,91 +1,107 @@
-ghost use Rattle.std.specs.Prelude.{◌≡◌, ◌<◌, ◌^◌, ℕ, List, length, vec_len, IfOk, IfSome, IfNone};
-ghost use Rattle.sflow_tool.specs.declared.command.Command.TheVariants as commands;
-ghost use Rattle.sflow_tool.specs.Replays.{IsDatagram, Replays, report_of};
-ghost use Rattle.wire_spec.specs.Heads.{Head};
-ghost use Rattle.datagram_core.specs.Heads.{head_of};
+// `replay`: the report of a capture.
+ghost use Rattle.std.specs.Prelude.{◌≡◌, ◌≤◌, [], ℕ, List, Some, length};
+ghost use Rattle.wire_spec.specs.Bytes.{AreBytes};
+ghost use Rattle.sflow_io.specs.declared.capture.Stage.TheVariants.{Start};
+ghost use Rattle.command_words.specs.declared.command.Command.TheVariants as commands;
+ghost use Rattle.sflow_tool.specs.Collects.{Collected, CollectsToTheEnd, HasReadCause};
+ghost use Rattle.sflow_tool.specs.Tallies.{nothing};
 ghost use Rattle.sflow_tool.specs.Runs.{Runs};
-ghost use Rattle.sflow_tool.specs.Views.{heads_of};
 
 use crate::Status;
-use crate::capture::only_entry;
+use crate::ending::{new_room, status_of};
+use crate::item::read_item;
 use crate::report::write_report;
-use datagram_core::{Datagram, DatagramHead};
-use sflow_io::{Sink, Source, read_most};
-use std::alloc::{AllocError, Global};
+use crate::tally::{Refused, Tally};
+use sflow_io::{CaptureReader, Next, ReadRefusal, Sink, Source};
+use std::alloc::Global;
 use wire_spec::{InputKind, Pad};
 
-// A capture of at most one entry has at most 65,556 bytes.
-const ROOM: usize = 65_557;
+// A reader gives at most so many entries.
+const MOST: u64 = 1 << 48;
 
-/// An input has one report at most.
-pub fn one_report()
-    ensures { (input text other : List ℕ) → Replays input text → Replays input other → text ≡ other }
-{}
+/// Why collecting ended before the end of the capture.
+#[derive(Clone, Copy, Debug, PartialEq, Eq)]
+pub enum Halt {
+    /// The reader refused to go on.
+    Read(ReadRefusal),
+    /// The entry that begins at this offset is a further datagram of its stream.
+    Unbuilt { at: u128 },
+    /// Memory was lacking.
+    Memory,
+}
 
-// Reads a capture and writes its report. All memory is taken before the first byte is read.
-pub fn replay<S: Source, K: Sink>(alloc: Global, source: &mut S, sink: &mut K) -> Status
+// Reads a capture and writes its report.
+pub(crate) fn replay<S: Source, K: Sink>(alloc: Global, source: &mut S, sink: &mut K) -> Status
     ensures { Runs commands.Replay (S.left source.old) (S.left source.new) (K.taken sink.old) (K.taken sink.new)
         (S.faults source.old) (S.faults source.new) (K.faults sink.old) (K.faults sink.new) result }
 {
+    let Ok(mut reader) = CaptureReader::open(alloc) else {
+        return Status::Memory;
+    };
+    let mut tally = Tally::new(alloc);
     match new_room(alloc) {
+        Ok(mut room) => replay_in(&mut reader, &mut room, &mut tally, source, sink),
         Err(_) => Status::Memory,
-        Ok(mut room) => replay_in(&mut room, source, sink),
     }
 }
 
-fn new_room(alloc: Global) -> Result<Vec<u8>, AllocError>
-    ensures { IfOk result (λ room. vec_len room ≡ 65557) }
-{
-    vec![in alloc; 0u8; ROOM]
-}
-
-// Replays a capture that is read into the room.
-fn replay_in<S: Source, K: Sink>(room: &mut [u8], source: &mut S, sink: &mut K) -> Status
-    requires { length room.old ≡ 65557 }
+// The same in this room.
+fn replay_in<S: Source, K: Sink>(
+    reader: &mut CaptureReader,
+    room: &mut [u8],
+    tally: &mut Tally,
+    source: &mut S,
+    sink: &mut K,
+) -> Status
+    requires fresh { reader.old ≡ record { stage = Start; held = [] } }
+    requires room { 65535 ≤ length room.old }
+    requires nothing { tally.old ≡ nothing }
     ensures { Runs commands.Replay (S.left source.old) (S.left source.new) (K.taken sink.old) (K.taken sink.new)
         (S.faults source.old) (S.faults source.new) (K.faults sink.old) (K.faults sink.new) result }
 {
-    let Ok(count) = read_most(source, room) else {
-        return Status::ReadFault;
-    };
-    match plan(&room[..count]) {
-        None => Status::BadInput {
-            at: 0,
-            kind: InputKind::Unbuilt,
-        },
-        Some(head) => match write_report(sink, &head) {
+    match collect(reader, source, room, tally) {
+        Ok(()) => match write_report(sink, tally) {
             Ok(()) => Status::Done,
             Err(_) => Status::WriteFault,
         },
-    }
-}
-
-// The head of the capture's datagram, if it has an entry; None where the input isn't such a capture.
-fn plan(input: &[u8]) -> Option<Option<DatagramHead>>
-    requires { length input.now < 2 ^ 32 }
-    ensures found { IfSome result (λ head. Replays input.now (report_of (heads_of head))) }
-    ensures none { IfNone result ((text : List ℕ) → Replays input.now text → ⊥) }
-{
-    match only_entry(input) {
-        None => None,
-        Some(None) => Some(None),
-        Some(Some(entry)) => match only_head(entry.bytes) {
-            Some(head) => Some(Some(head)),
-            None => None,
+        Err(Halt::Read(refusal)) => status_of(refusal),
+        Err(Halt::Unbuilt { at }) => Status::BadInput {
+            at,
+            kind: InputKind::Unbuilt,
         },
+        Err(Halt::Memory) => Status::Memory,
     }
 }
 
-// The head of a datagram that has no samples; None where the bytes aren't such a datagram.
-fn only_head(bytes: &[u8]) -> Option<DatagramHead>
-    ensures found { IfSome result (λ head. IsDatagram bytes.now (head_of head)) }
-    ensures none { IfNone result ((head : Head) → IsDatagram bytes.now head → ⊥) }
+// Counts all entries of the capture.
+fn collect<S: Source>(
+    reader: &mut CaptureReader,
+    source: &mut S,
+    room: &mut [u8],
+    tally: &mut Tally,
+) -> Result<(), Halt>
+    requires fresh { reader.old ≡ record { stage = Start; held = [] } }
+    requires room { 65535 ≤ length room.old }
+    requires nothing { tally.old ≡ nothing }
+    ensures told { (input : List ℕ) → AreBytes input → S.left source.old ≡ Some input
+        → Collected input tally.new result }
+    ensures at_end { CollectsToTheEnd result (S.left source.new) }
+    ensures cause { HasReadCause (S.faults source.old) (S.faults source.new) result }
 {
-    let Ok(datagram) = Datagram::parse(bytes, Pad::Any) else {
-        return None;
-    };
-    match datagram.samples().next() {
-        None => Some(datagram.head()),
-        Some(_) => None,
+    let mut offset = 8u128;
+    for _count in 0..MOST + 1 {
+        match reader.next(source, room) {
+            Ok(Next::Entry { len, .. }) => {
+                match tally.take(&read_item(&room[..len], Pad::Any)) {
+                    Ok(()) => {}
+                    Err(Refused::Repeated) => return Err(Halt::Unbuilt { at: offset }),
+                    Err(Refused::Memory) => return Err(Halt::Memory),
+                }
+                offset += (12 + len + (4 - len % 4) % 4) as u128;
+            }
+            Ok(Next::End) => return Ok(()),
+            Err(refusal) => return Err(Halt::Read(refusal)),
+        }
     }
+    unreachable!()
 }

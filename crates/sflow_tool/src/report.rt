@@ -1,13 +1,14 @@
-ghost use Rattle.std.specs.Prelude.{◌≡◌};
+ghost use Rattle.std.specs.Prelude.{◌≡◌, ◌++◌, map};
 ghost use Rattle.sflow_io.specs.Causes.{HasCause};
 ghost use Rattle.sflow_io.specs.Streams.{WritesAll};
 ghost use Rattle.text_lines.specs.Pages.{Prints};
 ghost use Rattle.wire_spec.specs.Report.{stream_line, stream_lines, total_line};
-ghost use Rattle.sflow_tool.specs.Replays.{received_once, totals_of, report_of};
-ghost use Rattle.sflow_tool.specs.Views.{heads_of, stream_figures, total_figures};
-ghost use Rattle.std.specs.Prelude.{map, length};
+ghost use Rattle.sflow_tool.specs.Replays.{received_once, totals_of, fault_text, report_text};
+ghost use Rattle.sflow_tool.specs.Views.{stream_figures, total_figures};
 ghost use Rattle.datagram_core.specs.Heads.{head_of};
 
+use crate::faults::put_fault;
+use crate::tally::{FirstFault, Tally};
 use data_format::Address;
 use datagram_core::DatagramHead;
 use sflow_io::{Failed, Sink};
@@ -39,44 +40,57 @@ pub struct Totals {
     pub taps_ended: u64,
 }
 
-// Writes the report of a capture that has at most this one datagram.
-pub fn write_report<K: Sink>(sink: &mut K, head: &Option<DatagramHead>) -> Result<(), Failed>
-    ensures writes { WritesAll (K.taken sink.old) (K.taken sink.new) result (report_of (heads_of head.now)) }
+// Writes the report of what was counted.
+pub(crate) fn write_report<K: Sink>(sink: &mut K, tally: &Tally) -> Result<(), Failed>
+    ensures writes { WritesAll (K.taken sink.old) (K.taken sink.new) result
+        (report_text tally.now.heads tally.now.first_fault tally.now.entries tally.now.malformed) }
     ensures cause { HasCause (K.faults sink.old) (K.faults sink.new) result }
 {
     let mut page = Page::new();
-    put_streams(&mut page, sink, head)?;
-    put_totals(&mut page, sink, head)?;
+    put_streams(&mut page, sink, tally.heads())?;
+    put_end(&mut page, sink, tally)?;
     page.flush(sink)
 }
 
-fn put_streams<K: Sink>(
-    page: &mut Page,
-    sink: &mut K,
-    head: &Option<DatagramHead>,
-) -> Result<(), Failed>
+// The line of each stream, in order of first arrival.
+fn put_streams<K: Sink>(page: &mut Page, sink: &mut K, heads: &[DatagramHead]) -> Result<(), Failed>
     ensures prints { Prints (K.taken sink.old) (K.taken sink.new) page.old page.new result
-        (stream_lines 1 (map received_once (heads_of head.now))) }
+        (stream_lines 1 (map received_once (map head_of heads.now))) }
     ensures cause { HasCause (K.faults sink.old) (K.faults sink.new) result }
 {
-    match head {
-        None => Ok(()),
-        Some(head) => put_stream(page, sink, 1, &seen_once(head)),
+    let mut number = 0u64;
+    for head in heads {
+        number += 1;
+        put_stream(page, sink, number, &seen_once(head))?;
     }
+    Ok(())
 }
 
-fn put_totals<K: Sink>(
-    page: &mut Page,
-    sink: &mut K,
-    head: &Option<DatagramHead>,
-) -> Result<(), Failed>
+// The line of the first fault, if there is one, and the last line.
+fn put_end<K: Sink>(page: &mut Page, sink: &mut K, tally: &Tally) -> Result<(), Failed>
     ensures prints { Prints (K.taken sink.old) (K.taken sink.new) page.old page.new result
-        (total_line (totals_of (length (heads_of head.now)))) }
+        (fault_text tally.now.first_fault ++ total_line (totals_of tally.now.entries tally.now.malformed)) }
     ensures cause { HasCause (K.faults sink.old) (K.faults sink.new) result }
 {
-    match head {
-        None => put_total(page, sink, &well_formed(0)),
-        Some(_) => put_total(page, sink, &well_formed(1)),
+    put_first_fault(page, sink, &tally.first_fault())?;
+    put_total(page, sink, &make_totals(tally.entries(), tally.malformed()))
+}
+
+fn put_first_fault<K: Sink>(
+    page: &mut Page,
+    sink: &mut K,
+    first: &Option<FirstFault>,
+) -> Result<(), Failed>
+    ensures prints { Prints (K.taken sink.old) (K.taken sink.new) page.old page.new result
+        (fault_text first.now) }
+    ensures cause { HasCause (K.faults sink.old) (K.faults sink.new) result }
+{
+    match first {
+        None => Ok(()),
+        Some(first) => {
+            page.put_line(sink, &[Piece::Text("fault ")])?;
+            put_fault(page, sink, first.entry, &first.fault)
+        }
     }
 }
 
@@ -98,13 +112,13 @@ fn seen_once(head: &DatagramHead) -> StreamView
     }
 }
 
-// So many entries, none of which is malformed.
-fn well_formed(entries: u64) -> Totals
-    ensures { total_figures result ≡ totals_of entries }
+// So many entries, and so many of them malformed.
+fn make_totals(entries: u64, malformed: u64) -> Totals
+    ensures { total_figures result ≡ totals_of entries malformed }
 {
     Totals {
         entries,
-        malformed: 0,
+        malformed,
         unlisted: 0,
         unlisted_samples: 0,
         other: 0,

@@ -1,20 +1,25 @@
 ghost use Rattle.std.specs.Prelude.{◌≡◌, ◌⊎◌, ◌↔◌, ℕ, List, None, Some, map, string_bytes};
 ghost use Rattle.sflow_io.specs.Causes.{Rose};
-ghost use Rattle.wire_spec.specs.declared.input_kind.InputKind.{InputKind};
-ghost use Rattle.sflow_tool.specs.Commands.{command_of};
-ghost use Rattle.sflow_tool.specs.Runs.{Runs, Gives, Breaks};
-ghost use Rattle.sflow_tool.specs.declared.command.Command.{Command};
+ghost use Rattle.wire_spec.specs.Bytes.{AreBytes};
+ghost use Rattle.command_words.specs.Commands.{command_of};
+ghost use Rattle.sflow_tool.specs.Outputs.{Decides};
+ghost use Rattle.sflow_tool.specs.Runs.{Runs};
+ghost use Rattle.command_words.specs.declared.command.Command.{Command};
+ghost use Rattle.sflow_tool.specs.declared.status.Status.{Status as Ending};
 
 use crate::Status;
-use crate::command::{self, read_words};
+use crate::check::check;
 use crate::replay::replay;
+use command_words::{Command as Asked, WordsRefusal, read_words};
 use sflow_io::{Sink, Source};
 use std::alloc::Global;
 
 /// Does what the words say, from the source to the sink. The words are without the program's name.
 ///
-/// `replay` reads a capture of at most one entry, a datagram without samples, and writes its report: a line for
-/// the stream, where there is an entry, and the line of totals.
+/// `replay` reads a capture and writes its report: a line for each stream, one for the first entry that is no
+/// datagram, and the line of totals. A stream may have one datagram; a further one is refused as unbuilt.
+/// `check` reads a capture and writes a line for each entry that is no datagram, and then how many there are;
+/// `--zero` asks for zero padding.
 pub fn run<S: Source, K: Sink>(
     alloc: Global,
     words: &[String],
@@ -31,18 +36,16 @@ pub fn run<S: Source, K: Sink>(
         (S.faults source.old) (S.faults source.new) (K.faults sink.old) (K.faults sink.new) result }
 
     // Where no count of faults rose, the input alone decides, but for want of memory.
-    ensures complete { (c : Command) (input text : List ℕ) → command_of (map string_bytes words.now) ≡ Some c
-        → S.left source.old ≡ Some input → Gives c input text
-        → ¬ Rose (S.faults source.old) (S.faults source.new) → ¬ Rose (K.faults sink.old) (K.faults sink.new)
-        → (result ≡ Status.Done) ⊎ (result ≡ Status.Memory) }
-    ensures refuses { (c : Command) (input : List ℕ) (at : ℕ) (kind : InputKind)
+    ensures complete { (c : Command) (input : List ℕ) (ending : Ending)
         → command_of (map string_bytes words.now) ≡ Some c
-        → S.left source.old ≡ Some input → Breaks c input at kind
+        → AreBytes input → S.left source.old ≡ Some input → Decides c input ending
         → ¬ Rose (S.faults source.old) (S.faults source.new) → ¬ Rose (K.faults sink.old) (K.faults sink.new)
-        → (result ≡ Status.BadInput at kind) ⊎ (result ≡ Status.Memory) }
+        → (result ≡ ending) ⊎ (result ≡ Status.Memory) }
 {
-    match read_words(words) {
-        None => Status::Usage,
-        Some(command::Command::Replay) => replay(alloc, source, sink),
+    match read_words(alloc, words) {
+        Ok(Asked::Replay) => replay(alloc, source, sink),
+        Ok(Asked::Check { pad }) => check(alloc, pad, source, sink),
+        Err(WordsRefusal::Usage) => Status::Usage,
+        Err(WordsRefusal::Memory) => Status::Memory,
     }
 }

@@ -1,6 +1,8 @@
 pub mod Readers
 pub mod Items
 pub mod Bodies
+pub mod Written
+pub mod ItemTrees
 pub use Rattle.wire_spec.specs.Bodies as WireBodies
 pub use Rattle.wire_spec.specs.Bytes
 pub use Rattle.wire_spec.specs.Fails

@@ -6,4 +6,4 @@ use Rattle.datagram_core.proofs.datagram.read_samples.Goals as goal
 pub over-requires : goal.over-requires
 over-requires c =
     frames_pass c.args.pad samples_read (remaining c.args.cursor.now) (c.in_ok-frames.frames, remaining c.read.new.cursor)
-    c.in_ok-frames.ensures.0
+    c.in_ok-frames.ensures.exact.0

@@ -1,5 +1,6 @@
 use Rattle.std.proofs.Common.{◌≡◌, ◌<◌, length, refl, arith}
 use Rattle.sflow_io.proofs.EntryFronts.{head_stops, head_cut, head_read, head_long, head_goes_on}
+use Rattle.sflow_io.proofs.Filled.{behind_held}
 use Rattle.sflow_io.proofs.entry_reader.read_entry.Goals as goal
 
 pub returns-then-count-eq0-clause-told : goal.returns-then-count-eq0-clause-told
@@ -29,3 +30,7 @@ returns-clause-told g c = λ bytes told.
     c.arrival_in-at.ensures c.length_in-len.ensures in
     rw (head_goes_on _ _ _ _ _ room told c.in-Ok.ensures.reads _ _ head c.if-len-gt65535.false)
     (c.read_body.ensures.told _ head.left_is)
+
+pub returns-then-count-eq0-clause-at_end : goal.returns-then-count-eq0-clause-at_end
+returns-then-count-eq0-clause-at_end g c =
+    behind_held _ _ (c.in-Ok.ensures.reads.all (omega arith))

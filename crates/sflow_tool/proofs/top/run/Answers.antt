@@ -1,17 +1,25 @@
-use Rattle.std.proofs.Common.{◌≡◌, refl, subst}
-use Rattle.sflow_tool.specs.Runs.{Breaks}
-use Rattle.sflow_tool.specs.declared.command.Command.{Command}
-use Rattle.sflow_tool.specs.declared.command.Command.TheVariants.{Replay}
-use Rattle.sflow_tool.proofs.Endings.{refused}
+use Rattle.std.proofs.Common.{◌≡◌, Some, sym, ap, subst, ◌∙◌}
+use Rattle.command_words.specs.declared.command.Command.{Command}
+use Rattle.command_words.specs.declared.command.Command.TheVariants.{Replay, Check}
+use Rattle.sflow_tool.specs.Outputs.{Decides}
+use Rattle.sflow_tool.proofs.Completed.{completed}
 use Rattle.sflow_tool.proofs.top.run.Goals as goal
 
--- there is one command
-is_replay : (command : Command) → command ≡ Replay
-is_replay Replay = refl
+same_command : (c d : Command) → Some c ≡ Some d → c ≡ d
+same_command c d e = cc
 
-pub returns-in-Some-Replay-clause-refuses : goal.returns-in-Some-Replay-clause-refuses
-returns-in-Some-Replay-clause-refuses g c = λ command input at kind words told breaks no_read no_write.
-    let ran = c.replay.ensures in
-    refused Replay c.replay.result input _ _ at kind ran.may (ran.ends input told)
-    (subst (λ (x : Command). Breaks x input at kind) (is_replay command) breaks)
-    (λ e. no_read (ran.read_fault e)) (λ e. no_write (ran.write_fault e))
+pub returns-in-Ok-Replay-clause-complete : goal.returns-in-Ok-Replay-clause-complete
+returns-in-Ok-Replay-clause-complete g c = λ command input ending words are told decides no_read no_write.
+    let same : command ≡ Replay =
+    same_command command Replay
+    (sym words ∙ c.in-Ok-Replay.ensures.command ∙ ap (λ (d : Command). Some d) c.in-Ok-Replay.field-0-is) in
+    completed Replay input _ _ _ _ _ _ _ _ _ _ c.replay.ensures are told
+    (subst (λ (d : Command). Decides d input ending) same decides) no_read no_write
+
+pub returns-in-Ok-Check-clause-complete : goal.returns-in-Ok-Check-clause-complete
+returns-in-Ok-Check-clause-complete g c = λ command input ending words are told decides no_read no_write.
+    let same : command ≡ Check c.in-Ok-Check.pad =
+    same_command command (Check c.in-Ok-Check.pad)
+    (sym words ∙ c.in-Ok-Check.ensures.command ∙ ap (λ (d : Command). Some d) c.in-Ok-Check.field-0-is) in
+    completed (Check c.in-Ok-Check.pad) input _ _ _ _ _ _ _ _ _ _ c.check.ensures are told
+    (subst (λ (d : Command). Decides d input ending) same decides) no_read no_write

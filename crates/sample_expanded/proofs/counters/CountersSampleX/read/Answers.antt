@@ -1,0 +1,25 @@
+use Rattle.data_format.specs.declared.heads.Form.TheVariants.{Expanded}
+use Rattle.data_format.specs.Frames.{Test}
+use Rattle.data_format.specs.Samples.{counters_members, counters_trees}
+use Rattle.data_format.specs.Views.{body_of, frame_view}
+use Rattle.data_format.proofs.Samples.{sample_spelled, sample_fault, sample_passes, sample_ranges, sample_tail}
+use Rattle.sample_expanded.proofs.counters.CountersSampleX.read.Goals as goal
+
+pub returns : goal.returns
+returns g c =
+    let p = c.args.pad in
+    let test : Test = λ f. g.C.BodyCheck.test c.args.check.now p f in
+    let b = body_of (frame_view c.args.frame) in
+    let r = c.within.result in
+    let fits = c.within.ensures.bytes in
+    let exact = c.within.ensures.exact in
+    let trees = counters_trees Expanded in
+    let members = counters_members Expanded in
+    record {
+      exact = exact;
+      spelled = sample_spelled trees members p test b r fits exact;
+      fault = sample_fault trees members p test b r fits exact;
+      passes = sample_passes trees members p test b r exact;
+      ranges = sample_ranges trees members p test b r fits exact;
+      tail = sample_tail trees members p test b r fits exact;
+    }

@@ -1,0 +1,121 @@
+ghost use Rattle.std.specs.Prelude.{◌≡◌, ◌+◌, ◌<◌, ◌^◌, length, IfOk, IfErr};
+ghost use Rattle.wire_spec.specs.Bytes.{AreBytes};
+ghost use Rattle.wire_spec.specs.Fails.{Fails};
+ghost use Rattle.wire_spec.specs.Reading.{members_at};
+ghost use Rattle.wire_spec.specs.Shapes.{Table};
+ghost use Rattle.wire_spec.specs.Whole.{SpellsFront};
+ghost use Rattle.xdr_words.specs.Readers.{Reads, Gives, remaining};
+ghost use Rattle.data_format.specs.declared.heads.Form.TheVariants.{Expanded};
+ghost use Rattle.data_format.specs.Ranges.{StandIn, EndsWith};
+ghost use Rattle.data_format.specs.Samples.{counters_members, counters_trees, counters_over, counters_tree, counters_parts, sample_reading};
+ghost use Rattle.data_format.specs.Trees.{IsTestOf, AllPass};
+ghost use Rattle.data_format.specs.Views.{body_of, frame_view};
+
+use data_format::{BodyCheck, CountersHead, Fault, Frame, Frames, SourceId};
+use std::marker::Model;
+use wire_spec::Pad;
+use xdr_words::Cursor;
+
+/// A counters sample in the expanded form, format 4 of the standard (sFlow Version 5, section 5): its head, the frames of
+/// its records, and the bytes behind them. Contracts see these three.
+#[derive(Drop)]
+pub struct CountersSampleX<'a> {
+    head: CountersHead,
+    frames: Frames<'a>,
+    tail: &'a [u8],
+}
+
+impl<'a> Model for CountersSampleX<'a> {
+    ghost use Rattle.data_format.specs.declared.heads.CountersHead.{CountersHead};
+    ghost use Rattle.data_format.specs.Samples.{SampleView};
+
+    ghost Value = { SampleView CountersHead };
+
+    ghost view = { λ s. record { head = s.head; frames = s.frames; tail = s.tail.now } };
+}
+
+impl<'a> CountersSampleX<'a> {
+    /// The sample in a frame's body, whatever the frame's format; `pad` is how padding is read. The first fault from
+    /// the front on: `Short` at a word, or at a record's padded body, that the sample's body doesn't hold; else what
+    /// the check finds in a record's body, and `Pad` at the padding behind it, as `Frames::read` says. The place behind
+    /// the body is below 2^32.
+    pub fn read<C: BodyCheck>(
+        frame: Frame<'a>,
+        pad: Pad,
+        check: &C,
+    ) -> Result<CountersSampleX<'a>, Fault>
+        requires { frame.at + length frame.body.now < 2 ^ 32 }
+        ensures exact { Gives (counters_parts Expanded) (λ f. f) result
+            (sample_reading pad (counters_members Expanded) (λ f. C.test check.now pad f) (body_of (frame_view frame.entry))) }
+
+        // Where the check's test is that of a table, it is a counters sample over this table.
+        ensures spelled { (T : Table) → IsTestOf pad T (λ f. C.test check.now pad f)
+            → IfOk result (λ s. SpellsFront pad (counters_over Expanded T) frame.entry.body.now (counters_tree Expanded T s, s.tail)) }
+        ensures fault { (T : Table) → IsTestOf pad T (λ f. C.test check.now pad f)
+            → IfErr result (λ f. Fails pad (counters_over Expanded T) (body_of (frame_view frame.entry)) f) }
+        ensures passes { (T : Table) → IsTestOf pad T (λ f. C.test check.now pad f) → IfOk result (λ s. AllPass T s.frames) }
+
+        // The body of each record stands in the sample's body at its place; the tail is the rest of the body.
+        ensures ranges { IfOk result (λ s. StandIn (body_of (frame_view frame.entry)) s.frames) }
+        ensures tail { IfOk result (λ s. EndsWith frame.entry.body.now s.tail) }
+    {
+        CountersSampleX::within(frame.body, frame.at, pad, check)
+    }
+
+    // The same of bytes, the first of which stands at this place.
+    fn within<C: BodyCheck>(
+        body: &'a [u8],
+        at: usize,
+        pad: Pad,
+        check: &C,
+    ) -> Result<CountersSampleX<'a>, Fault>
+        requires { at + length body.now < 2 ^ 32 }
+        ensures exact { Gives (counters_parts Expanded) (λ f. f) result
+            (sample_reading pad (counters_members Expanded) (λ f. C.test check.now pad f) (record { at = at; bytes = body.now })) }
+        ensures bytes { AreBytes body.now }
+    {
+        let mut cursor = Cursor::within(body, pad, at);
+        let head = read_head(&mut cursor)?;
+        let frames = Frames::read(&mut cursor, pad, check)?;
+        let tail = cursor.rest();
+        Ok(CountersSampleX { head, frames, tail })
+    }
+
+    /// What stands before the records.
+    pub fn head(&self) -> CountersHead
+        ensures { result ≡ self.now.head }
+    {
+        self.head
+    }
+
+    /// The frames of the records, from the first one on.
+    pub fn frames(&self) -> Frames<'a>
+        ensures { result ≡ self.now.frames }
+    {
+        self.frames.fork()
+    }
+
+    /// The bytes of the body behind the records.
+    pub fn tail(&self) -> &'a [u8]
+        ensures { result.now ≡ self.now.tail }
+    {
+        self.tail
+    }
+}
+
+// Sequence number and source, or the first fault.
+fn read_head(cursor: &mut Cursor<'_>) -> Result<CountersHead, Fault>
+    ensures { Reads (counters_trees Expanded) (λ f. f) cursor.old cursor.new result
+        (members_at cursor.old.pad (counters_members Expanded) (remaining cursor.old)) }
+{
+    let mut next = cursor.fork();
+    let head = CountersHead {
+        sequence: next.word()?,
+        source: SourceId {
+            class: next.word()?,
+            index: next.word()?,
+        },
+    };
+    *cursor = next;
+    Ok(head)
+}

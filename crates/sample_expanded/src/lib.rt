@@ -1,0 +1,8 @@
+//! Samples in the expanded form (sFlow Version 5, section 5): a source and a port are two words each.
+#![tactic(auto)]
+
+mod counters;
+mod flow;
+
+pub use counters::CountersSampleX;
+pub use flow::FlowSampleX;

@@ -1,0 +1,8 @@
+//! Samples in the compact form (sFlow Version 5, section 5): a source and a port are one word each.
+#![tactic(auto)]
+
+mod counters;
+mod flow;
+
+pub use counters::CountersSample;
+pub use flow::FlowSample;

@@ -1,0 +1,27 @@
+-- One piece written after the other.
+use Rattle.std.proofs.Common.{ℕ, ◌≤◌, List, ◌++◌, length, Result, Ok, Err, ap, ◌∙◌, append_assoc, arith}
+use Rattle.std.proofs.lemmas.List.{length-append}
+use Rattle.xdr_words.specs.declared.writer.Out.{Out}
+use Rattle.xdr_words.specs.declared.writer.OutFull.{OutFull}
+use Rattle.xdr_words.specs.Written.{written, room_left, Appends, Refuses, Puts}
+
+-- two pieces, of which both were written
+pub both_appended : (a b c : Out) (x y : List ℕ) → Appends a b x → Appends b c y → Appends a c (x ++ y)
+both_appended a b c x y p q = record {
+  room = record { same = q.room.same ∙ p.room.same; size = q.room.size ∙ p.room.size };
+  fits = omega (arith, length-append x y, p.fits, q.fits, p.len, p.room.size);
+  len = omega (arith, length-append x y, p.len, q.len);
+  whole = q.whole ∙ ap (λ (t : List ℕ). t ++ y) p.whole ∙ append_assoc (written a) x y;
+}
+
+-- the last of several pieces that fit together
+pub last_put : (a b c : Out) (x y : List ℕ) (r : Result Unit OutFull) → Appends a b x → Puts b c r y
+    → length (x ++ y) ≤ room_left a → Puts a c r (x ++ y)
+last_put a b c x y (Ok u) p q fits = both_appended a b c x y p q
+last_put a b c x y (Err e) p q fits =
+    absurd (omega (arith, length-append x y, fits, q.short, p.len, p.room.size, p.fits))
+
+-- one that isn't the last of them is written
+pub is_written : (a b c : Out) (x y : List ℕ) (e : OutFull) → Appends a b x → Refuses b c e y
+    → length (x ++ y) ≤ room_left a → ⊥
+is_written a b c x y e p q fits = omega (arith, length-append x y, fits, q.short, p.len, p.room.size, p.fits)
