@@ -1,4 +1,4 @@
-ghost use Rattle.std.specs.Prelude.{◌≡◌, [], ◌∷◌, IfNone, IfSome};
+ghost use Rattle.std.specs.Prelude.{◌≡◌, [], ◌∷◌, length, IfNone, IfSome};
 ghost use Rattle.data_format.specs.Trees.{AllPass};
 ghost use Rattle.data_format.specs.Views.{FrameView};
 ghost use Rattle.datagram_core.specs.Samples.{IsSampleOf};
@@ -44,6 +44,13 @@ impl<'a> Samples<'a> {
         Samples {
             frames: self.frames.fork(),
         }
+    }
+
+    /// How many are left.
+    pub fn len(&self) -> u32
+        ensures { result ≡ length self.now }
+    {
+        self.frames.len()
     }
 
     /// The first one that is left, which is then passed; `None` exactly where none is left.

@@ -1,12 +1,10 @@
 -- Laws of what a page and its sink hold together.
-use Rattle.std.proofs.Common.{◌≡◌, ℕ, ◌+◌, ◌<◌, List, [], ◌++◌, Option, Result, Ok, Err, IsErrAnd, length, drop, drop-cons, add-one, get_or, sym, ap, ◌∙◌, append_assoc, append-nil, subst}
+use Rattle.std.proofs.Common.{◌≡◌, ℕ, ◌+◌, ◌<◌, List, [], ◌++◌, flat_map, Option, Result, Ok, Err, IsErrAnd, length, drop, drop-cons, add-one, get_or, sym, ap, ◌∙◌, append_assoc, append-nil, subst}
 use Rattle.std.specs.Io.KnownBytes.{Appends}
 use Rattle.std.proofs.KnownBytes.{Appends-trans, Appends-nil}
 use Rattle.sflow_io.specs.Streams.{AppendsPrefix, WritesAll}
 use Rattle.sflow_io.proofs.Prefixes.{prefix_after, prefix_longer}
-use Rattle.text_lines.specs.Pages.{Puts, Prints}
-use Rattle.text_lines.specs.Pieces.{piece_text, pieces_text}
-use Rattle.text_lines.specs.declared.piece.Piece.{Piece}
+use Rattle.text_lines.specs.Pages.{Puts, Prints, Flushes}
 
 -- nothing was put
 pub puts_none : (told : Option (List ℕ)) (held : List ℕ) → Puts told told held held []
@@ -58,9 +56,44 @@ pub prints_same : {T E : Type 0} (r : Result T E) (a b : Option (List ℕ)) (p q
     → text ≡ other → Prints a b p q r text → Prints a b p q r other
 prints_same r a b p q text other same prints = subst (Prints a b p q r) same prints
 
--- the text of the pieces from one on is that piece's and then the rest's
-pub pieces_text-drop : (pieces : List Piece) (i : ℕ) (none : Piece) → i < length pieces
-    → pieces_text (drop i pieces) ≡ piece_text (get_or pieces i none) ++ pieces_text (drop (i + 1) pieces)
-pieces_text-drop pieces i none within =
-    ap pieces_text (drop-cons pieces i none within)
-    ∙ ap (λ n. piece_text (get_or pieces i none) ++ pieces_text (drop n pieces)) (sym (add-one i))
+-- the texts of what is left from one on are that one's and then the rest's
+pub texts-drop : {A : Type 0} (text : A → List ℕ) (xs : List A) (i : ℕ) (none : A) → i < length xs
+    → flat_map text (drop i xs) ≡ text (get_or xs i none) ++ flat_map text (drop (i + 1) xs)
+texts-drop text xs i none within =
+    ap (flat_map text) (drop-cons xs i none within)
+    ∙ ap (λ n. text (get_or xs i none) ++ flat_map text (drop n xs)) (sym (add-one i))
+
+-- ---- two texts, one after the other
+
+-- the first doesn't go out
+pub prints_first : {T E : Type 0} (Q : E → Type 0) (r : Result T E) (a b : Option (List ℕ)) (p q s t : List ℕ)
+    → IsErrAnd r Q → AppendsPrefix a b (p ++ s) → Prints a b p q r (s ++ t)
+prints_first Q r a b p q s t failed part =
+    prints_err Q r a b p q (s ++ t) failed
+    (subst (AppendsPrefix a b) (append_assoc p s t) (prefix_longer a b (p ++ s) t part))
+
+-- the first was put
+pub prints_second : {T E : Type 0} (r : Result T E) (a b c : Option (List ℕ)) (p q n s t : List ℕ)
+    → Puts a b p q s → Prints b c q n r t → Prints a c p n r (s ++ t)
+prints_second (Ok x) a b c p q n s t first second = puts_both a b c p q n s t first second
+prints_second (Err x) a b c p q n s t first part = puts_part a b c p q s t first part
+
+-- ---- a page of its own
+
+-- the text was put on an empty page, which is then written
+pub page_written : {T E : Type 0} (r : Result T E) (a b c : Option (List ℕ)) (p q n s : List ℕ)
+    → p ≡ [] → Puts a b p q s → Flushes b c q n r → WritesAll a c r s
+page_written {T} {E} r a b c p q n s empty first flushed = go r flushed
+  where
+    whole : first.gone ++ q ≡ s
+    whole = sym first.whole ∙ ap (λ (l : List ℕ). l ++ s) empty
+
+    go : (r : Result T E) → Flushes b c q n r → WritesAll a c r s
+    go (Ok x) (appended, held) = subst (Appends a c) whole (Appends-trans a b c first.gone q first.appended appended)
+    go (Err x) (part, held) = subst (AppendsPrefix a c) whole (prefix_after a b c first.gone q first.appended part)
+
+-- the text doesn't go out
+pub page_fails : {T E : Type 0} (Q : E → Type 0) (r : Result T E) (a b : Option (List ℕ)) (p s : List ℕ)
+    → p ≡ [] → IsErrAnd r Q → AppendsPrefix a b (p ++ s) → WritesAll a b r s
+page_fails Q (Ok x) a b p s empty bad part = absurd bad
+page_fails Q (Err x) a b p s empty failed part = subst (λ (l : List ℕ). AppendsPrefix a b (l ++ s)) empty part

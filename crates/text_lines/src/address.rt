@@ -1,30 +1,10 @@
 // The text of an address.
-ghost use Rattle.std.specs.Prelude.{◌≡◌, ◌<◌, ◌/◌, ◌%◌, false};
-ghost use Rattle.std.specs.Fmt.{digit_glyph};
+ghost use Rattle.std.specs.Prelude.{◌≡◌};
 ghost use Rattle.wire_spec.specs.Texts.{grouped as grouped_text, dotted as dotted_text};
 
+use crate::hex::{high, low};
 use arrayvec::ArrayString;
 use itoa::Buffer;
-
-// A lower-case hexadecimal digit.
-fn digit(n: u8) -> u8
-    requires { n < 16 }
-    ensures { result ≡ digit_glyph false n }
-{
-    if n < 10 { b'0' + n } else { b'a' + (n - 10) }
-}
-
-fn high(byte: u8) -> u8
-    ensures { result ≡ digit_glyph false (byte / 16) }
-{
-    digit(byte / 16)
-}
-
-fn low(byte: u8) -> u8
-    ensures { result ≡ digit_glyph false (byte % 16) }
-{
-    digit(byte % 16)
-}
 
 /// Four decimal numbers with dots between them.
 pub(crate) fn dotted(bytes: &[u8; 4]) -> ArrayString<15>

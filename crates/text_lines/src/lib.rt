@@ -2,6 +2,7 @@
 #![tactic(auto)]
 
 mod address;
+mod hex;
 mod page;
 mod piece;
 

@@ -1,13 +1,15 @@
 ghost use Rattle.std.specs.Prelude.{◌≡◌, ◌≤◌, ◌+◌, [], ◌++◌, length, decimal};
 ghost use Rattle.data_format.specs.Addresses.{address_of};
-ghost use Rattle.wire_spec.specs.Texts.{address_text};
+ghost use Rattle.wire_spec.specs.Texts.{address_text, hex};
 ghost use Rattle.sflow_io.specs.Causes.{HasCause};
 ghost use Rattle.sflow_io.specs.Streams.{AppendsPrefix};
+ghost use Rattle.text_lines.specs.Bytes.{hex_or_dash, mac_text};
 ghost use Rattle.text_lines.specs.Pages.{Prints, Flushes};
 
 use crate::Piece;
 use crate::address::{dotted, grouped};
-use data_format::Address;
+use crate::hex::{colons, pair};
+use data_format::{Address, Mac};
 use itoa::Buffer;
 use sflow_io::{Failed, Sink, write_all};
 use std::marker::Model;
@@ -99,6 +101,36 @@ impl Page {
             Address::V6(bytes) => self.put(sink, &grouped(bytes)),
         }
     }
+
+    fn put_hex<K: Sink>(&mut self, sink: &mut K, bytes: &[u8]) -> Result<(), Failed>
+        ensures prints { Prints (K.taken sink.old) (K.taken sink.new) self.old self.new result
+            (hex_or_dash bytes.now) }
+        ensures cause { HasCause (K.faults sink.old) (K.faults sink.new) result }
+    {
+        if bytes.is_empty() {
+            return self.put(sink, b"-");
+        }
+        self.put_pairs(sink, bytes)
+    }
+
+    fn put_pairs<K: Sink>(&mut self, sink: &mut K, bytes: &[u8]) -> Result<(), Failed>
+        ensures prints { Prints (K.taken sink.old) (K.taken sink.new) self.old self.new result
+            (hex bytes.now) }
+        ensures cause { HasCause (K.faults sink.old) (K.faults sink.new) result }
+    {
+        for byte in bytes {
+            self.put(sink, &pair(*byte))?;
+        }
+        Ok(())
+    }
+
+    fn put_mac<K: Sink>(&mut self, sink: &mut K, mac: &Mac) -> Result<(), Failed>
+        ensures prints { Prints (K.taken sink.old) (K.taken sink.new) self.old self.new result
+            (mac_text mac.now.0) }
+        ensures cause { HasCause (K.faults sink.old) (K.faults sink.new) result }
+    {
+        self.put(sink, &colons(mac))
+    }
 }
 
 impl Page {
@@ -113,6 +145,8 @@ impl Page {
             Piece::Text(text) => self.put(sink, text.as_bytes()),
             Piece::Number(number) => self.put_number(sink, *number),
             Piece::Address(address) => self.put_address(sink, address),
+            Piece::Hex(bytes) => self.put_hex(sink, bytes),
+            Piece::Mac(mac) => self.put_mac(sink, mac),
         }
     }
 

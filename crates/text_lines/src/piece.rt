@@ -1,4 +1,4 @@
-use data_format::Address;
+use data_format::{Address, Mac};
 
 /// A piece of a line.
 #[derive(Clone, Copy, Debug)]
@@ -10,4 +10,8 @@ pub enum Piece<'a> {
     /// An address: `unknown`, four decimal numbers with dots, or eight groups of four lower-case
     /// hexadecimal digits with colons, none of them shortened.
     Address(Address),
+    /// Bytes, each as two lower-case hexadecimal digits; `-` where there are none.
+    Hex(&'a [u8]),
+    /// A MAC address (IEEE 802.3): six bytes, each as two such digits, with colons between them.
+    Mac(Mac),
 }

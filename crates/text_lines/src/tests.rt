@@ -1,5 +1,5 @@
 use crate::{Page, Piece};
-use data_format::Address;
+use data_format::{Address, Mac};
 use sflow_io::{Failed, MemorySink};
 use std::alloc::{AllocError, Global};
 use std::test::Fail;
@@ -26,6 +26,13 @@ fn prints_each_kind_of_piece(rt: HostRuntime) -> Result<(), Fail> {
         (
             Piece::Address(Address::V6([0xab; 16])),
             "abab:abab:abab:abab:abab:abab:abab:abab",
+        ),
+        (Piece::Hex(&[]), "-"),
+        (Piece::Hex(&[0]), "00"),
+        (Piece::Hex(&[0xde, 0xad, 0xbe, 0xef, 0x01]), "deadbeef01"),
+        (
+            Piece::Mac(Mac([0x02, 0, 0x5e, 0xff, 0x10, 0x0a])),
+            "02:00:5e:ff:10:0a",
         ),
     ];
     for (piece, want) in cases {
@@ -68,6 +75,18 @@ fn a_line_may_be_longer_than_the_page(rt: HostRuntime) -> Result<(), Fail> {
     }
     assert_eq!(rt; page.flush(&mut sink), Ok(()));
     assert!(rt; sink.bytes() == want.as_bytes());
+    Ok(())
+}
+
+#[test]
+fn many_bytes_in_hexadecimal(rt: HostRuntime) -> Result<(), Fail> {
+    let bytes = vec![in rt.alloc(); 0x5a; 65_535]?;
+    let mut sink = MemorySink::new(rt.alloc(), 200_000, Vec::new(rt.alloc()));
+    let mut page = Page::new();
+    assert_eq!(rt; page.put_line(&mut sink, &[Piece::Hex(&bytes)]), Ok(()));
+    assert_eq!(rt; page.flush(&mut sink), Ok(()));
+    assert_eq!(rt; sink.bytes().len(), 131_070);
+    assert!(rt; sink.bytes().chunks(2).all(|pair| pair == b"5a".as_slice()));
     Ok(())
 }
 

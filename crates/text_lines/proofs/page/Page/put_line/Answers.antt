@@ -1,5 +1,6 @@
 use Rattle.std.proofs.Common.{[], ◌++◌, refl, sym, ap, ◌∙◌, append_assoc}
-use Rattle.text_lines.proofs.PageLaws.{puts_none, puts_both, puts_fails, prints_err, pieces_text-drop}
+use Rattle.text_lines.specs.Pieces.{piece_text}
+use Rattle.text_lines.proofs.PageLaws.{puts_none, puts_both, puts_fails, prints_err, texts-drop}
 use Rattle.text_lines.proofs.page.Page.put_line.Goals as goal
 
 pub loop-piece-init : goal.loop-piece-init
@@ -9,14 +10,14 @@ pub loop-piece-preserved : goal.loop-piece-preserved
 loop-piece-preserved g c =
     let before = c.loop-piece.invariant in
     let put = c.in_ok-put_piece.ensures in
-    let next = pieces_text-drop c.args.pieces.now c.loop-piece.piece-index _ c.loop-piece-test.true in
+    let next = texts-drop piece_text c.args.pieces.now c.loop-piece.piece-index _ c.loop-piece-test.true in
     let whole = before.0.1 ∙ ap (λ l. before.0.0 ++ l) next ∙ sym (append_assoc before.0.0 _ _) in
     ((_, whole, puts_both _ _ _ _ _ _ _ _ before.0.2 put.prints), put.cause.kept ∙ before.1)
 
 pub returns-in_err-put_piece-clause-prints : goal.returns-in_err-put_piece-clause-prints
 returns-in_err-put_piece-clause-prints g c =
     let before = c.loop-piece.invariant in
-    let next = pieces_text-drop c.args.pieces.now c.loop-piece.piece-index _ c.loop-piece-test.true in
+    let next = texts-drop piece_text c.args.pieces.now c.loop-piece.piece-index _ c.loop-piece-test.true in
     let whole = before.0.1 ∙ ap (λ l. before.0.0 ++ l) next in
     prints_err _ _ _ _ _ _ _ c.from_residual.ensures.1
     (puts_fails _ _ _ _ _ _ _ _ _ whole before.0.2 c.in_err-put_piece.ensures.prints)

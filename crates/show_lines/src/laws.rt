@@ -1,0 +1,33 @@
+// What the lines say. A function here has nothing to do: its contract is the law.
+ghost use Rattle.std.specs.Prelude.{◌≡◌, ◌++◌, ℕ, length};
+ghost use Rattle.wire_spec.specs.declared.fault.Fault.{Fault};
+ghost use Rattle.wire_spec.specs.declared.pad.Pad.TheVariants.{Any};
+ghost use Rattle.wire_spec.specs.Captures.{Entry};
+ghost use Rattle.wire_spec.specs.Shapes.{Tree};
+ghost use Rattle.wire_spec.specs.Whole.{SpellsWhole, FailsWhole};
+ghost use Rattle.datagram_core.specs.Tables.{datagram_read};
+ghost use Rattle.show_lines.specs.Lines.{entry_line, fault_line};
+ghost use Rattle.show_lines.specs.Shown.{entry_text, datagram_text};
+ghost use Rattle.show_lines.specs.Worked.{flow_entry, flow_lines, expanded_entry, expanded_lines, cut_entry, cut_lines, tail_entry, tail_lines, other_entry, other_lines};
+
+/// An entry is shown with the line of a fault exactly where its bytes have this fault in the grammar, and else with
+/// the lines of the one datagram that they are.
+pub fn shown_as_the_grammar_says()
+    ensures fault { (number : ℕ) (e : Entry) (f : Fault) → FailsWhole Any datagram_read e.bytes f
+        → entry_text number e ≡ entry_line number e.arrival (length e.bytes) ++ fault_line f }
+    ensures datagram { (number : ℕ) (e : Entry) (t : Tree) → SpellsWhole Any datagram_read e.bytes t
+        → entry_text number e ≡ entry_line number e.arrival (length e.bytes) ++ datagram_text t }
+
+    // No lines of a datagram are the line of a fault.
+    ensures apart { (t : Tree) (f : Fault) → ¬ (datagram_text t ≡ fault_line f) }
+{}
+
+/// Worked entries: flow samples in both forms, bytes that are no datagram, a tail, and formats outside of the
+/// tables.
+pub fn worked_entries()
+    ensures flow { entry_text 1 flow_entry ≡ flow_lines }
+    ensures expanded { entry_text 1 expanded_entry ≡ expanded_lines }
+    ensures cut { entry_text 2 cut_entry ≡ cut_lines }
+    ensures tail { entry_text 1 tail_entry ≡ tail_lines }
+    ensures other { entry_text 1 other_entry ≡ other_lines }
+{}

@@ -1,0 +1,14 @@
+//! The lines that show an entry of a capture: its datagram with the samples and records, or the fault of its bytes.
+#![tactic(auto)]
+
+mod entry;
+mod laws;
+mod lines;
+mod record;
+mod sample;
+
+pub use entry::{put_entry, show_entry};
+pub use laws::{shown_as_the_grammar_says, worked_entries};
+
+#[cfg(test)]
+mod tests;

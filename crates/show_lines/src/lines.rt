@@ -1,0 +1,212 @@
+// The lines, from plain values.
+ghost use Rattle.std.specs.Prelude.{◌≡◌};
+ghost use Rattle.wire_spec.specs.FaultNames.{fault_name};
+ghost use Rattle.datagram_core.specs.Heads.{head_of};
+ghost use Rattle.sflow_io.specs.Causes.{HasCause};
+ghost use Rattle.text_lines.specs.Pages.{Prints};
+ghost use Rattle.show_lines.specs.Lines.{entry_line, fault_line, datagram_line, flow_front, counters_front, frame_front, line_end};
+
+use data_format::{CountersHead, FlowHead, Format};
+use datagram_core::DatagramHead;
+use sflow_io::{Failed, Sink};
+use text_lines::{Page, Piece};
+use wire_spec::{Fault, FaultKind};
+
+// The number of an entry, its arrival in ms, and how many bytes it has.
+#[tactic(auto, unfolding(crate::specs::Lines::entry_line))]
+pub(crate) fn put_entry_line<K: Sink>(
+    page: &mut Page,
+    sink: &mut K,
+    number: u64,
+    at: u64,
+    count: usize,
+) -> Result<(), Failed>
+    ensures prints { Prints (K.taken sink.old) (K.taken sink.new) page.old page.new result
+        (entry_line number at count) }
+    ensures cause { HasCause (K.faults sink.old) (K.faults sink.new) result }
+{
+    let pieces = [
+        Piece::Text("entry "),
+        Piece::Number(number as u128),
+        Piece::Text(" at "),
+        Piece::Number(at as u128),
+        Piece::Text(" bytes "),
+        Piece::Number(count as u128),
+        Piece::Text("\n"),
+    ];
+    page.put_line(sink, &pieces)
+}
+
+// The kind of a fault as it is printed.
+fn kind_name(kind: &FaultKind) -> &'static str
+    ensures { result.now ≡ fault_name kind.now }
+{
+    match kind {
+        FaultKind::Short { .. } => "short",
+        FaultKind::Pad => "pad",
+        FaultKind::Version { .. } => "version",
+        FaultKind::AddressType { .. } => "address",
+        FaultKind::SegmentType { .. } => "segment",
+        FaultKind::Trailing { .. } => "trailing",
+        FaultKind::TooLong => "toolong",
+    }
+}
+
+// The place of a fault, and its kind.
+#[tactic(auto, unfolding(crate::specs::Lines::fault_line))]
+pub(crate) fn put_fault<K: Sink>(page: &mut Page, sink: &mut K, fault: &Fault) -> Result<(), Failed>
+    ensures prints { Prints (K.taken sink.old) (K.taken sink.new) page.old page.new result
+        (fault_line fault.now) }
+    ensures cause { HasCause (K.faults sink.old) (K.faults sink.new) result }
+{
+    let pieces = [
+        Piece::Text("fault at "),
+        Piece::Number(fault.at as u128),
+        Piece::Text(" kind "),
+        Piece::Text(kind_name(&fault.kind)),
+        Piece::Text("\n"),
+    ];
+    page.put_line(sink, &pieces)
+}
+
+// The head of a datagram, and how many samples it has.
+#[tactic(auto, unfolding(crate::specs::Lines::datagram_line))]
+pub(crate) fn put_head<K: Sink>(
+    page: &mut Page,
+    sink: &mut K,
+    head: &DatagramHead,
+    samples: u32,
+) -> Result<(), Failed>
+    ensures prints { Prints (K.taken sink.old) (K.taken sink.new) page.old page.new result
+        (datagram_line (head_of head.now) samples) }
+    ensures cause { HasCause (K.faults sink.old) (K.faults sink.new) result }
+{
+    let pieces = [
+        Piece::Text("datagram agent "),
+        Piece::Address(head.agent),
+        Piece::Text(" sub "),
+        Piece::Number(head.sub_agent as u128),
+        Piece::Text(" seq "),
+        Piece::Number(head.sequence as u128),
+        Piece::Text(" uptime "),
+        Piece::Number(head.uptime as u128),
+        Piece::Text(" samples "),
+        Piece::Number(samples as u128),
+        Piece::Text("\n"),
+    ];
+    page.put_line(sink, &pieces)
+}
+
+// A flow sample, and how many records it has.
+#[tactic(auto, unfolding(crate::specs::Lines::flow_front))]
+pub(crate) fn put_flow<K: Sink>(
+    page: &mut Page,
+    sink: &mut K,
+    name: &str,
+    head: &FlowHead,
+    records: u32,
+) -> Result<(), Failed>
+    ensures prints { Prints (K.taken sink.old) (K.taken sink.new) page.old page.new result
+        (flow_front name.now head.now records) }
+    ensures cause { HasCause (K.faults sink.old) (K.faults sink.new) result }
+{
+    let pieces = [
+        Piece::Text(name),
+        Piece::Text(" seq "),
+        Piece::Number(head.sequence as u128),
+        Piece::Text(" source "),
+        Piece::Number(head.source.class as u128),
+        Piece::Text(":"),
+        Piece::Number(head.source.index as u128),
+        Piece::Text(" rate "),
+        Piece::Number(head.rate as u128),
+        Piece::Text(" pool "),
+        Piece::Number(head.pool as u128),
+        Piece::Text(" drops "),
+        Piece::Number(head.drops as u128),
+        Piece::Text(" in "),
+        Piece::Number(head.input.form as u128),
+        Piece::Text(":"),
+        Piece::Number(head.input.value as u128),
+        Piece::Text(" out "),
+        Piece::Number(head.output.form as u128),
+        Piece::Text(":"),
+        Piece::Number(head.output.value as u128),
+        Piece::Text(" records "),
+        Piece::Number(records as u128),
+    ];
+    page.put_line(sink, &pieces)
+}
+
+// A counters sample, and how many records it has.
+#[tactic(auto, unfolding(crate::specs::Lines::counters_front))]
+pub(crate) fn put_counters<K: Sink>(
+    page: &mut Page,
+    sink: &mut K,
+    name: &str,
+    head: &CountersHead,
+    records: u32,
+) -> Result<(), Failed>
+    ensures prints { Prints (K.taken sink.old) (K.taken sink.new) page.old page.new result
+        (counters_front name.now head.now records) }
+    ensures cause { HasCause (K.faults sink.old) (K.faults sink.new) result }
+{
+    let pieces = [
+        Piece::Text(name),
+        Piece::Text(" seq "),
+        Piece::Number(head.sequence as u128),
+        Piece::Text(" source "),
+        Piece::Number(head.source.class as u128),
+        Piece::Text(":"),
+        Piece::Number(head.source.index as u128),
+        Piece::Text(" records "),
+        Piece::Number(records as u128),
+    ];
+    page.put_line(sink, &pieces)
+}
+
+// A sample or a record whose format isn't read.
+#[tactic(auto, unfolding(crate::specs::Lines::frame_front))]
+pub(crate) fn put_frame<'a, K: Sink>(
+    page: &mut Page,
+    sink: &mut K,
+    name: &'a str,
+    format: Format,
+    body: &'a [u8],
+) -> Result<(), Failed>
+    ensures prints { Prints (K.taken sink.old) (K.taken sink.new) page.old page.new result
+        (frame_front name.now format body.now) }
+    ensures cause { HasCause (K.faults sink.old) (K.faults sink.new) result }
+{
+    let pieces = [
+        Piece::Text(name),
+        Piece::Number(format.enterprise as u128),
+        Piece::Text(":"),
+        Piece::Number(format.number as u128),
+        Piece::Text(" bytes "),
+        Piece::Number(body.len() as u128),
+        Piece::Text(" "),
+        Piece::Hex(body),
+    ];
+    page.put_line(sink, &pieces)
+}
+
+// The tail, where there is one, and the end of the line.
+#[tactic(auto, unfolding(crate::specs::Lines::line_end))]
+pub(crate) fn put_line_end<K: Sink>(
+    page: &mut Page,
+    sink: &mut K,
+    tail: &[u8],
+) -> Result<(), Failed>
+    ensures prints { Prints (K.taken sink.old) (K.taken sink.new) page.old page.new result
+        (line_end tail.now) }
+    ensures cause { HasCause (K.faults sink.old) (K.faults sink.new) result }
+{
+    if tail.is_empty() {
+        return page.put_line(sink, &[Piece::Text("\n")]);
+    }
+    page.put_line(
+        sink,
+        &[Piece::Text(" tail "), Piece::Hex(tail), Piece::Text("\n")],
+    )
+}
