@@ -4,7 +4,7 @@ use Rattle.std.specs.Prelude.{option_and_then}
 use Rattle.wire_spec.specs.declared.pad.Pad.{Pad}
 use Rattle.command_words.specs.declared.arguments.CommandName.{CommandName}
 use Rattle.command_words.specs.declared.arguments.CommandName.TheVariants as name
-use Rattle.command_words.specs.declared.command.Command.TheVariants.{Replay, Check}
+use Rattle.command_words.specs.declared.command.Command.TheVariants.{Replay, Show, Check}
 use Rattle.command_words.specs.Rules.{Text, Rule, has_flag}
 use Rattle.command_words.specs.Pieces.{Piece}
 use Rattle.command_words.specs.Reading.{lawful_pieces}
@@ -15,6 +15,14 @@ replay_named : (words : List Text) → true ≡ is_some (lawful_pieces (rules_of
 replay_named words some = go (lawful_pieces (rules_of name.Replay) words) some
   where
     go : (o : Option (List Piece)) → true ≡ is_some o → option_and_then (command_with name.Replay) o ≡ Some Replay
+    go None some = cc
+    go (Some pieces) some = refl
+
+show_named : (words : List Text) → true ≡ is_some (lawful_pieces (rules_of name.Show) words)
+    → command_named words name.Show ≡ Some Show
+show_named words some = go (lawful_pieces (rules_of name.Show) words) some
+  where
+    go : (o : Option (List Piece)) → true ≡ is_some o → option_and_then (command_with name.Show) o ≡ Some Show
     go None some = cc
     go (Some pieces) some = refl
 
@@ -34,6 +42,11 @@ module _ (command : CommandName) (words : List Text) (rules : List Rule) (same :
   replay_asked is =
       ap (command_named words) is
       ∙ replay_named words (lawful ∙ ap (λ rs. is_some (lawful_pieces rs words)) (same ∙ ap rules_of is))
+
+  pub show_asked : command ≡ name.Show → command_named words command ≡ Some Show
+  show_asked is =
+      ap (command_named words) is
+      ∙ show_named words (lawful ∙ ap (λ rs. is_some (lawful_pieces rs words)) (same ∙ ap rules_of is))
 
   pub check_asked : (pad : Pad) → command ≡ name.Check
       → ((pieces : List Piece) → has_flag rules (codes "zero") ≡ true → lawful_pieces rules words ≡ Some pieces → pad ≡ pad_of pieces)

@@ -15,10 +15,12 @@ use Rattle.command_words.proofs.LawfulReading.{lawful_read, read_lawful}
 
 pub rules_fine : (command : CommandName) → are_rules (rules_of command) ≡ true
 rules_fine name.Replay = refl
+rules_fine name.Show = refl
 rules_fine name.Check = refl
 
 name_read : (command : CommandName) → name_of (word_of command) ≡ Some command
 name_read name.Replay = refl
+name_read name.Show = refl
 name_read name.Check = refl
 
 read_name : (word : Text) (command : CommandName) → name_of word ≡ Some command → word ≡ word_of command
@@ -29,11 +31,18 @@ read_name word command e = replay (bytes_eq word (word_of name.Replay)) refl e
     check true is e = (bytes_eq-Decides word (word_of name.Check)).0 is ∙ ap word_of (same_Some _ _ e)
     check false is e = cc
 
+    show : (b : Bool) → bytes_eq word (word_of name.Show) ≡ b
+        → (if b then Some name.Show else (if bytes_eq word (word_of name.Check) then Some name.Check else None)) ≡ Some command
+        → word ≡ word_of command
+    show true is e = (bytes_eq-Decides word (word_of name.Show)).0 is ∙ ap word_of (same_Some _ _ e)
+    show false is e = check (bytes_eq word (word_of name.Check)) refl e
+
     replay : (b : Bool) → bytes_eq word (word_of name.Replay) ≡ b
-        → (if b then Some name.Replay else (if bytes_eq word (word_of name.Check) then Some name.Check else None)) ≡ Some command
+        → (if b then Some name.Replay else (if bytes_eq word (word_of name.Show) then Some name.Show
+        else (if bytes_eq word (word_of name.Check) then Some name.Check else None))) ≡ Some command
         → word ≡ word_of command
     replay true is e = (bytes_eq-Decides word (word_of name.Replay)).0 is ∙ ap word_of (same_Some _ _ e)
-    replay false is e = check (bytes_eq word (word_of name.Check)) refl e
+    replay false is e = show (bytes_eq word (word_of name.Show)) refl e
 
 pub asked_read : (words : List Text) (pieces : List Piece) (command : Command) → Asks words pieces command
     → command_of words ≡ Some command

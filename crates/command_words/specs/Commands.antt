@@ -7,7 +7,7 @@ use Rattle.command_words.specs.declared.arguments.Form.TheVariants.{Flag}
 use Rattle.command_words.specs.declared.arguments.CommandName.{CommandName}
 use Rattle.command_words.specs.declared.arguments.CommandName.TheVariants as name
 use Rattle.command_words.specs.declared.command.Command.{Command}
-use Rattle.command_words.specs.declared.command.Command.TheVariants.{Replay, Check}
+use Rattle.command_words.specs.declared.command.Command.TheVariants.{Replay, Show, Check}
 use Rattle.command_words.specs.Rules.{Text, Rule}
 use Rattle.command_words.specs.Pieces.{Piece, AreLawful, count_of, spelling}
 use Rattle.command_words.specs.Reading.{lawful_pieces}
@@ -15,16 +15,19 @@ use Rattle.command_words.specs.Reading.{lawful_pieces}
 -- a command's first word
 abbrev pub word_of : CommandName → Text
 word_of name.Replay = codes "replay"
+word_of name.Show = codes "show"
 word_of name.Check = codes "check"
 
 abbrev pub name_of : Text → Option CommandName
 name_of word =
     if bytes_eq word (word_of name.Replay) then Some name.Replay
-    else (if bytes_eq word (word_of name.Check) then Some name.Check else None)
+    else (if bytes_eq word (word_of name.Show) then Some name.Show
+    else (if bytes_eq word (word_of name.Check) then Some name.Check else None))
 
 -- a command's options and flags
 abbrev pub rules_of : CommandName → List Rule
 rules_of name.Replay = []
+rules_of name.Show = []
 rules_of name.Check = record { name = codes "zero"; form = Flag } ∷ []
 
 -- the padding is zero where the flag stands
@@ -34,6 +37,7 @@ pad_of pieces = if nat_lt 0 (count_of (codes "zero") pieces) then Zero else Any
 -- the command of that name with the values of its pieces
 abbrev pub command_with : CommandName → List Piece → Option Command
 command_with name.Replay pieces = Some Replay
+command_with name.Show pieces = Some Show
 command_with name.Check pieces = Some (Check (pad_of pieces))
 
 -- the words are a command's name and lawful pieces, which give the command its values

@@ -25,10 +25,11 @@ pub(crate) struct Argument {
 #[derive(Clone, Copy, Debug, PartialEq, Eq)]
 pub enum CommandName {
     Replay,
+    Show,
     Check,
 }
 
-static REPLAY: [Argument; 0] = [];
+static NONE: [Argument; 0] = [];
 
 static CHECK: [Argument; 1] = [Argument {
     name: "zero",
@@ -42,6 +43,7 @@ impl CommandName {
     {
         match word {
             "replay" => Some(CommandName::Replay),
+            "show" => Some(CommandName::Show),
             "check" => Some(CommandName::Check),
             _ => None,
         }
@@ -52,6 +54,7 @@ impl CommandName {
     {
         match self {
             CommandName::Replay => "replay",
+            CommandName::Show => "show",
             CommandName::Check => "check",
         }
     }
@@ -61,7 +64,7 @@ impl CommandName {
         ensures { rules_in result.now ≡ rules_of self }
     {
         match self {
-            CommandName::Replay => &REPLAY,
+            CommandName::Replay | CommandName::Show => &NONE,
             CommandName::Check => &CHECK,
         }
     }

@@ -15,6 +15,8 @@ use wire_spec::Pad;
 pub enum Command {
     /// Reads a capture and reports its streams.
     Replay,
+    /// Reads a capture and shows each of its entries.
+    Show,
     /// Reads a capture and names its faulty entries, under a reading of padding.
     Check { pad: Pad },
 }
@@ -62,6 +64,7 @@ fn read_command(alloc: Global, name: CommandName, words: &[String]) -> Result<Co
     match matches_in(alloc, name.word(), arguments, words) {
         Ok(matches) => Ok(match name {
             CommandName::Replay => Command::Replay,
+            CommandName::Show => Command::Show,
             CommandName::Check => Command::Check {
                 pad: pad_in(&matches),
             },

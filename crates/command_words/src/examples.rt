@@ -11,6 +11,7 @@ use wire_spec::Pad;
 /// The words of the commands.
 pub fn words_of_commands()
     ensures replay { command_of (codes "replay" ∷ []) ≡ Some Command.Replay }
+    ensures show { command_of (codes "show" ∷ []) ≡ Some Command.Show }
     ensures check { command_of (codes "check" ∷ []) ≡ Some (Command.Check Pad.Any) }
     ensures check_zero { command_of (codes "check" ∷ codes "--zero" ∷ []) ≡ Some (Command.Check Pad.Zero) }
 

@@ -6,6 +6,8 @@ const USAGE: Result<Command, WordsRefusal> = Err(WordsRefusal::Usage);
 
 const REPLAY: Result<Command, WordsRefusal> = Ok(Command::Replay);
 
+const SHOW: Result<Command, WordsRefusal> = Ok(Command::Show);
+
 const CHECK: Result<Command, WordsRefusal> = Ok(Command::Check { pad: Pad::Any });
 
 const CHECK_ZERO: Result<Command, WordsRefusal> = Ok(Command::Check { pad: Pad::Zero });
@@ -13,13 +15,14 @@ const CHECK_ZERO: Result<Command, WordsRefusal> = Ok(Command::Check { pad: Pad::
 // With ample memory each list of words has its reading.
 #[test]
 fn words_have_their_readings(rt: HostRuntime) -> Result<(), Fail> {
-    let cases: [(&[&str], Result<Command, WordsRefusal>); 20] = [
+    let cases: [(&[&str], Result<Command, WordsRefusal>); 21] = [
         (&[], USAGE),
         (&[""], USAGE),
         (&["replay"], REPLAY),
         (&["replay", "extra"], USAGE),
         (&["replay", "--"], USAGE),
         (&["replay", "--zero"], USAGE),
+        (&["show"], SHOW),
         (&["check"], CHECK),
         (&["check", "--zero"], CHECK_ZERO),
         (&["check", "--zero="], USAGE),

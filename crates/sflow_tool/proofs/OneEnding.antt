@@ -13,7 +13,7 @@ use Rattle.wire_spec.proofs.CaptureWalks.{capture_bytes-push}
 use Rattle.std.proofs.lemmas.Bool.{cases_lt}
 use Rattle.sflow_io.specs.CaptureSteps.{FaultBehind, GoesOn}
 use Rattle.command_words.specs.declared.command.Command.{Command}
-use Rattle.command_words.specs.declared.command.Command.TheVariants.{Replay, Check}
+use Rattle.command_words.specs.declared.command.Command.TheVariants.{Replay, Show, Check}
 use Rattle.sflow_tool.specs.declared.status.Status.{Status}
 use Rattle.sflow_tool.specs.declared.status.Status.TheVariants.{Done, Found, Usage, ReadFault, WriteFault, BadInput, Memory, LinkFault, Spent}
 use Rattle.sflow_tool.specs.Outputs.{Breaks as OutputBreaks, faulty, unbuilt, Decides, IsRead, IsUnbuilt, Takes, finds}
@@ -142,6 +142,7 @@ no_further c es r status e mid (goes_on some number is) front takes few = omega 
 
 takes_front : (c : Command) (es more : List Entry) → Takes c (es ++ more) → Takes c es
 takes_front Replay es more takes = distinct_front es more takes
+takes_front Show es more takes = tt
 takes_front (Check pad) es more takes = tt
 
 no_longer : (c : Command) (es fs : List Entry) (r : List ℕ) (status : Status) (e : Entry) (more : List Entry)

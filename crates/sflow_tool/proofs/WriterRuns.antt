@@ -256,8 +256,7 @@ module _ (c : Command) (line : ℕ → Entry → List ℕ)
       (sym is)
       (not_flushed Done
       (λ input are is.
-      let t = told input are is in
-      (
+      let t = told input are is in (
         t.entries,
         record { taken = takes t.entries; ends = record { all = t.all; found_is = none t.entries } },
         subst (Puts a b page held) (wholes t.entries) t.put,

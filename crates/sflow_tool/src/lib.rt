@@ -8,6 +8,7 @@ mod item;
 mod laws;
 mod replay;
 mod report;
+mod show;
 mod status;
 mod tally;
 mod top;

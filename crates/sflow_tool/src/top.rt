@@ -10,6 +10,7 @@ ghost use Rattle.sflow_tool.specs.declared.status.Status.{Status as Ending};
 use crate::Status;
 use crate::check::check;
 use crate::replay::replay;
+use crate::show::show;
 use command_words::{Command as Asked, WordsRefusal, read_words};
 use sflow_io::{Sink, Source};
 use std::alloc::Global;
@@ -18,7 +19,7 @@ use std::alloc::Global;
 ///
 /// `replay` reads a capture and writes its report: a line for each stream, one for the first entry that is no
 /// datagram, and the line of totals. A stream may have one datagram; a further one is refused as unbuilt.
-/// `check` reads a capture and writes a line for each entry that is no datagram, and then how many there are;
+/// `show` reads a capture and writes the lines of each entry. `check` reads a capture and writes a line for each entry that is no datagram, and then how many there are;
 /// `--zero` asks for zero padding.
 pub fn run<S: Source, K: Sink>(
     alloc: Global,
@@ -44,6 +45,7 @@ pub fn run<S: Source, K: Sink>(
 {
     match read_words(alloc, words) {
         Ok(Asked::Replay) => replay(alloc, source, sink),
+        Ok(Asked::Show) => show(alloc, source, sink),
         Ok(Asked::Check { pad }) => check(alloc, pad, source, sink),
         Err(WordsRefusal::Usage) => Status::Usage,
         Err(WordsRefusal::Memory) => Status::Memory,

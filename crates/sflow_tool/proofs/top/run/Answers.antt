@@ -1,6 +1,6 @@
 use Rattle.std.proofs.Common.{◌≡◌, Some, sym, ap, subst, ◌∙◌}
 use Rattle.command_words.specs.declared.command.Command.{Command}
-use Rattle.command_words.specs.declared.command.Command.TheVariants.{Replay, Check}
+use Rattle.command_words.specs.declared.command.Command.TheVariants.{Replay, Show, Check}
 use Rattle.sflow_tool.specs.Outputs.{Decides}
 use Rattle.sflow_tool.proofs.Completed.{completed}
 use Rattle.sflow_tool.proofs.top.run.Goals as goal
@@ -14,6 +14,14 @@ returns-in-Ok-Replay-clause-complete g c = λ command input ending words are tol
     same_command command Replay
     (sym words ∙ c.in-Ok-Replay.ensures.command ∙ ap (λ (d : Command). Some d) c.in-Ok-Replay.field-0-is) in
     completed Replay input _ _ _ _ _ _ _ _ _ _ c.replay.ensures are told
+    (subst (λ (d : Command). Decides d input ending) same decides) no_read no_write
+
+pub returns-in-Ok-Show-clause-complete : goal.returns-in-Ok-Show-clause-complete
+returns-in-Ok-Show-clause-complete g c = λ command input ending words are told decides no_read no_write.
+    let same : command ≡ Show =
+    same_command command Show
+    (sym words ∙ c.in-Ok-Show.ensures.command ∙ ap (λ (d : Command). Some d) c.in-Ok-Show.field-0-is) in
+    completed Show input _ _ _ _ _ _ _ _ _ _ c.show.ensures are told
     (subst (λ (d : Command). Decides d input ending) same decides) no_read no_write
 
 pub returns-in-Ok-Check-clause-complete : goal.returns-in-Ok-Check-clause-complete
