@@ -11,7 +11,7 @@ use Rattle.count_spec.proofs.Counts.{count_by-cons}
 use Rattle.count_spec.proofs.Conservation.{parts-add_up}
 use Rattle.count_spec.proofs.Counted.{counted-distinct}
 use Rattle.count_spec.proofs.Sets.{has-greatest}
-use Rattle.late_window.specs.Bits.{count_below}
+use Rattle.late_window.specs.Distances.{count_below}
 use Rattle.late_window.specs.States.{WindowState, is_recent, issued_count, pending_count, Shows}
 use Rattle.late_window.specs.Fields.{held, window_state, IsWindow}
 use Rattle.late_window.specs.declared.window.Window.TheInside.{Inside}

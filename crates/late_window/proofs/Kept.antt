@@ -2,7 +2,8 @@
 use Rattle.std.proofs.Common.{◌≡◌, ℕ, ◌+◌, ◌-◌, ◌*◌, ◌^◌, ◌<◌, ◌≤◌, Bool, true, false, ◌&&◌, ◌||◌, not, refl, sym, ◌∙◌, ap, arith, pos, ◌+ℤ◌, ◌≤ℤ◌}
 use Rattle.std.specs.Prelude.{◌==◌, nat_le, min}
 use Rattle.std.proofs.lemmas.Int.{ints}
-use Rattle.late_window.specs.Bits.{count_below, IsEmpty}
+use Rattle.late_window.specs.Distances.{count_below}
+use Rattle.late_window.specs.Settled.{IsEmpty}
 use Rattle.late_window.specs.States.{is_recent}
 use Rattle.late_window.specs.Steps.{Begins, Advances, Fills}
 use Rattle.late_window.specs.Fields.{held, window_state, IsWindow}

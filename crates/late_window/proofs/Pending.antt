@@ -2,7 +2,8 @@
 use Rattle.std.proofs.Common.{◌≡◌, ℕ, zero, suc, ◌+◌, ◌-◌, ◌<◌, ◌≤◌, inl, inr, Bool, true, false, cond, ◌&&◌, ◌||◌, not, refl, sym, ◌∙◌, ap, arith}
 use Rattle.std.specs.Prelude.{◌==◌, nat_le, min}
 use Rattle.std.proofs.lemmas.Bool.{cases_eq, eq-eqb, ne_eqb, le-leb, lt-leb, false≢true}
-use Rattle.late_window.specs.Bits.{count_below, IsSettled}
+use Rattle.late_window.specs.Distances.{count_below}
+use Rattle.late_window.specs.Settled.{IsSettled}
 use Rattle.late_window.proofs.Tallies.{count-zero, count-same, count-all, count-split, count-first, count-one}
 
 -- the bits moved on by this step, and the newest is counted

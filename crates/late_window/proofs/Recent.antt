@@ -1,6 +1,6 @@
 -- What a window shows of its bits.
 use Rattle.std.proofs.Common.{◌≡◌, ℕ, zero, suc, ◌<◌, Bool, false, refl, arith, get_or}
-use Rattle.late_window.specs.Bits.{tabulated}
+use Rattle.late_window.specs.Distances.{tabulated}
 use Rattle.late_window.specs.States.{is_recent}
 use Rattle.late_window.specs.Fields.{held, window_state}
 use Rattle.late_window.specs.declared.window.Window.TheInside.{Inside}

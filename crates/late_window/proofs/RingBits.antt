@@ -4,7 +4,8 @@ use Rattle.std.specs.Prelude.{◌==◌, nat_le}
 use Rattle.std.specs.Int.{bit_at}
 use Rattle.std.proofs.lemmas.Bool.{cases_eq, cases_lt, eq-eqb, ne_eqb, le-leb, lt-leb}
 use Rattle.std.proofs.lemmas.Nat.Bits.{shr_and_one, bit_at-zero, bit_at_set_same, bit_at_set_other, bit_at_clear_same, bit_at_clear_other}
-use Rattle.late_window.specs.Bits.{count_below, bit_of_slot, slot_below, bit_below}
+use Rattle.late_window.specs.Distances.{count_below}
+use Rattle.late_window.specs.Ring.{bit_of_slot, slot_below, bit_below}
 use Rattle.late_window.proofs.Tallies.{count-suc}
 
 -- ---- one bit

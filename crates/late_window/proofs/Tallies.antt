@@ -1,7 +1,7 @@
 -- How many of the numbers below n pass a test.
 use Rattle.std.proofs.Common.{◌≡◌, ℕ, zero, suc, ◌+◌, ◌<◌, ◌≤◌, inl, inr, Bool, true, false, cond, refl, sym, ◌∙◌, ap, arith, add-suc}
 use Rattle.std.proofs.lemmas.Bool.{cases_eq}
-use Rattle.late_window.specs.Bits.{count_below}
+use Rattle.late_window.specs.Distances.{count_below}
 
 pub count-zero : (p : ℕ → Bool) → count_below p 0 ≡ 0
 unfolding count_below

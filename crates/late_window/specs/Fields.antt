@@ -1,6 +1,8 @@
 -- The fields of a window.
 use Rattle.std.specs.Prelude.{◌≡◌, ℕ, ◌+◌, ◌*◌, ◌^◌, ◌<◌, ◌≤◌, Bool, pos, ◌≤ℤ◌}
-use Rattle.late_window.specs.Bits.{tabulated, bit_below, IsSettled, IsEmpty}
+use Rattle.late_window.specs.Distances.{tabulated}
+use Rattle.late_window.specs.Ring.{bit_below}
+use Rattle.late_window.specs.Settled.{IsSettled, IsEmpty}
 use Rattle.late_window.specs.States.{WindowState}
 use Rattle.late_window.specs.declared.window.Window.TheInside.{Inside}
 

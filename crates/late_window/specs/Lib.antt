@@ -1,4 +1,6 @@
-pub mod Bits
+pub mod Distances
+pub mod Ring
+pub mod Settled
 pub mod States
 pub mod Answers
 pub mod Steps

@@ -3,7 +3,7 @@
 use Rattle.std.specs.Prelude.{◌≡◌, ℕ, ◌+◌, ◌<◌, ◌==◌, not, min, cond, Bool, false, List, [], ◌∷◌, length, ℤ, pos, ◌-ℤ◌, Option, Some, None, slice_index_or}
 use Rattle.count_spec.specs.Windows.{mark_of, greatest, least, has, counted}
 use Rattle.count_spec.specs.Parts.{Parts, parts}
-use Rattle.late_window.specs.Bits.{count_below}
+use Rattle.late_window.specs.Distances.{count_below}
 
 -- what is to be seen of a window
 pub record WindowState : Type 0 where

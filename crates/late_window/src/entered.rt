@@ -14,7 +14,7 @@ pub enum Place {
 /// What a window answers to a mark.
 #[derive(Debug, Clone, Copy, PartialEq, Eq)]
 pub enum Entered {
-    /// The mark is the first of its number, which is counted now.
+    /// The mark is the first of its number, the integer that it stands for, which is counted now.
     First { place: Place, number: i128 },
     /// The number was counted before.
     Repeat,

@@ -1,5 +1,6 @@
 ghost use Rattle.std.specs.Prelude.{◌≡◌, ℕ, ◌+◌, ◌-◌, ◌<◌, ◌≤◌, ◌==◌, ◌&&◌, ◌||◌, nat_le, not, false};
-ghost use Rattle.late_window.specs.Bits.{bit_below, slot_below, count_below};
+ghost use Rattle.late_window.specs.Distances.{count_below};
+ghost use Rattle.late_window.specs.Ring.{bit_below, slot_below};
 
 /// How many numbers the bits tell of.
 const SLOTS: usize = 1024;

@@ -1,6 +1,8 @@
 ghost use Rattle.std.specs.Prelude.{◌≡◌, ◌↔◌, ℕ, ◌+◌, ◌-◌, ◌*◌, ◌^◌, ◌<◌, ◌≤◌, ◌==◌, ◌&&◌, ◌||◌, nat_le, not, min, false, List, [], ◌∷◌, length, pos, ◌-ℤ◌, IsNone};
 ghost use Rattle.count_spec.specs.Windows.{answer, counted};
-ghost use Rattle.late_window.specs.Bits.{bit_below, count_below, IsSettled};
+ghost use Rattle.late_window.specs.Distances.{count_below};
+ghost use Rattle.late_window.specs.Ring.{bit_below};
+ghost use Rattle.late_window.specs.Settled.{IsSettled};
 ghost use Rattle.late_window.specs.States.{StandsFor, is_recent, issued_count, pending_count, parts_of, newest_mark_of};
 ghost use Rattle.late_window.specs.Answers.{answer_of};
 ghost use Rattle.late_window.specs.Steps.{Begins, Advances, Fills, Passes};
@@ -242,13 +244,14 @@ impl Window {
 }
 
 // Moves the bits on to a number so far above the newest, which is counted, and answers what is pending then.
-// The numbers that are passed are missing now. Where the width is passed, nothing else is near any more; else
-// what was missing and falls out of the width is no longer pending.
+// What is passed is missing now. What was missing and falls out of the width is lost and no longer pending; where
+// the step is the width or more, that is all of it.
 //
-//      kept and pending:              |--- width - step ---|
-//      lost from now on:   |-- step --|                    |
-//   ------------------------------------------------------------------> numbers
-//      newest - width                          newest      newest + step
+//                  |<------------ width ------------>|              before
+//                  |<- step ->|<------------ width ------------>|   after
+//     -------------+----------+----------------------+----------+---> numbers
+//        newest - width                           newest   newest + step
+//                    falls out        stays            passed
 fn move_on(recent: &mut Ring, width: u32, span: u128, pending: u32, step: u32) -> u32
     requires width_from { 1 ≤ width }
     requires width_to { width ≤ 1024 }

@@ -1,6 +1,7 @@
 use Rattle.std.proofs.Common.{ℕ, ◌≡◌, not, Bool, ap, ◌∙◌, arith}
 use Rattle.std.specs.Prelude.{min}
-use Rattle.late_window.specs.Bits.{bit_below, count_below}
+use Rattle.late_window.specs.Distances.{count_below}
+use Rattle.late_window.specs.Ring.{bit_below}
 use Rattle.late_window.proofs.Tallies.{count-bound}
 use Rattle.late_window.proofs.Pending.{pending-far, pending-near, moved-far, moved-near}
 use Rattle.late_window.proofs.window.move_on.Goals as goal

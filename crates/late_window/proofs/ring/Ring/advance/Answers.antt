@@ -1,4 +1,4 @@
-use Rattle.late_window.specs.Bits.{bit_below}
+use Rattle.late_window.specs.Ring.{bit_below}
 use Rattle.late_window.proofs.RingBits.{moved-more, moved-none}
 use Rattle.late_window.proofs.ring.Ring.advance.Goals as goal
 

@@ -1,6 +1,6 @@
 use Rattle.std.proofs.Common.{◌≡◌, ℕ, ◌-◌, ◌<◌, ◌&&◌}
 use Rattle.std.specs.Prelude.{nat_le}
-use Rattle.late_window.specs.Bits.{bit_below}
+use Rattle.late_window.specs.Ring.{bit_below}
 use Rattle.late_window.proofs.ring.Ring.advance.Given as goal
 
 abbrev pub invariant-loop-passed : goal.invariant-loop-passed

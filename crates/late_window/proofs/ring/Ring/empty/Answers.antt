@@ -1,5 +1,5 @@
 use Rattle.late_window.proofs.RingBits.{zero-bits}
-use Rattle.late_window.specs.Bits.{slot_below}
+use Rattle.late_window.specs.Ring.{slot_below}
 use Rattle.late_window.proofs.ring.Ring.empty.Goals as goal
 
 pub returns : goal.returns

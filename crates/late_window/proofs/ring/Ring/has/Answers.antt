@@ -1,5 +1,5 @@
 use Rattle.std.proofs.Common.{◌∙◌, ap}
-use Rattle.late_window.specs.Bits.{bit_of_slot}
+use Rattle.late_window.specs.Ring.{bit_of_slot}
 use Rattle.late_window.proofs.RingBits.{bit-read}
 use Rattle.late_window.proofs.ring.Ring.has.Goals as goal
 

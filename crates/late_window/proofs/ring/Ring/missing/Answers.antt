@@ -1,5 +1,6 @@
 use Rattle.std.proofs.Common.{◌≡◌, ◌+◌, ◌-◌, ◌<◌, ◌≤◌, not, true, false, sym, ◌∙◌, arith}
-use Rattle.late_window.specs.Bits.{count_below, bit_below}
+use Rattle.late_window.specs.Distances.{count_below}
+use Rattle.late_window.specs.Ring.{bit_below}
 use Rattle.late_window.proofs.Tallies.{count-bound, count-zero}
 use Rattle.late_window.proofs.RingBits.{missing-more}
 use Rattle.late_window.proofs.ring.Ring.missing.Goals as goal

@@ -1,5 +1,6 @@
 use Rattle.std.proofs.Common.{◌≡◌, ◌+◌, ◌-◌, not}
-use Rattle.late_window.specs.Bits.{count_below, bit_below}
+use Rattle.late_window.specs.Distances.{count_below}
+use Rattle.late_window.specs.Ring.{bit_below}
 use Rattle.late_window.proofs.ring.Ring.missing.Given as goal
 
 abbrev pub invariant-loop-back : goal.invariant-loop-back
