@@ -1,0 +1,18 @@
+use Rattle.wire_spec.specs.Tables.{ethernet_counters}
+use Rattle.data_format.specs.Views.{body_of, frame_view}
+use Rattle.data_format.proofs.Records.{record_spelled, record_fault, record_tail}
+use Rattle.rec_counters.specs.Contents.{ethernet_content}
+use Rattle.rec_counters.proofs.ethernet.EthernetCounters.read.Goals as goal
+
+pub returns : goal.returns
+returns c =
+    let b = body_of (frame_view c.args.frame) in
+    let p = c.args.pad in
+    let r = c.within.result in
+    let fits = c.within.ensures.bytes in
+    record {
+      exact = c.within.ensures.exact;
+      spelled = record_spelled ethernet_content ethernet_counters p b r fits c.within.ensures.exact;
+      fault = record_fault ethernet_content ethernet_counters p b r fits c.within.ensures.exact;
+      tail = record_tail ethernet_content ethernet_counters p b r fits c.within.ensures.exact;
+    }

@@ -1,0 +1,3 @@
+pub mod WordRuns
+pub mod Paths
+pub mod Bodies

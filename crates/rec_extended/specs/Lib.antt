@@ -1,0 +1,4 @@
+pub mod Contents
+pub mod WordLists
+pub mod Paths
+pub mod RouteContents
