@@ -1,8 +1,5 @@
-ghost use Rattle.std.specs.Prelude.{◌≡◌, [], IfOk, IfErr, IsOkAnd};
-ghost use Rattle.wire_spec.specs.Heads.{Head, datagram_tree};
+ghost use Rattle.std.specs.Prelude.{◌≡◌, IfOk, IfErr};
 ghost use Rattle.wire_spec.specs.Reading.{members_at};
-ghost use Rattle.wire_spec.specs.Shapes.{none};
-ghost use Rattle.wire_spec.specs.Tables.{datagram};
 ghost use Rattle.wire_spec.specs.Whole.{SpellsWhole, FailsWhole, whole_reading};
 ghost use Rattle.xdr_words.specs.Readers.{Reads, Gives, remaining};
 ghost use Rattle.data_format.specs.Frames.{frames_at};
@@ -52,12 +49,6 @@ impl<'a> Datagram<'a> {
         // The body of each sample is the range of the bytes at its place, and so is the body of each of its records.
         ensures ranges { IfOk result (λ d. AreRanges bytes.now d.samples) }
         ensures nested { IfOk result (λ d. BodiesAreRanges bytes.now d.samples) }
-
-        // Without samples it is the datagram of the whole grammar, and each such datagram is read.
-        ensures empty { IfOk result (λ d. d.samples ≡ []
-            → SpellsWhole pad datagram bytes.now (datagram_tree d.head none)) }
-        ensures complete { (h : Head) → SpellsWhole pad datagram bytes.now (datagram_tree h none)
-            → IsOkAnd result (λ d. (d.head ≡ h) × (d.samples ≡ [])) }
     {
         parse_parts(bytes, pad)
     }

@@ -18,6 +18,8 @@ pub use sample::Sample;
 pub use samples::Samples;
 
 #[cfg(test)]
+mod record_tests;
+#[cfg(test)]
 mod sample_tests;
 #[cfg(test)]
 mod tests;

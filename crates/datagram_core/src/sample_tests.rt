@@ -5,7 +5,7 @@ use std::test::Fail;
 use wire_spec::Pad;
 
 // Version 5, agent 10.0.0.1, sub-agent 0, sequence number 1, uptime 1,000 ms.
-const HEAD: [u32; 6] = [5, 1, 0x0a00_0001, 0, 1, 1000];
+pub(crate) const HEAD: [u32; 6] = [5, 1, 0x0a00_0001, 0, 1, 1000];
 
 const SOURCE: SourceId = SourceId { class: 2, index: 5 };
 
@@ -62,7 +62,7 @@ fn shown<'a>(sample: &Sample<'a>) -> Seen<'a> {
 }
 
 // Words, and then bytes.
-fn bytes_of(alloc: Global, parts: &[&[u32]], rest: &[&[u8]]) -> Result<Vec<u8>, Fail> {
+pub(crate) fn bytes_of(alloc: Global, parts: &[&[u32]], rest: &[&[u8]]) -> Result<Vec<u8>, Fail> {
     let mut bytes = Vec::new(alloc);
     for words in parts {
         for word in words.iter() {
