@@ -1,6 +1,7 @@
 use crate::sample_tests::{HEAD, bytes_of};
 use crate::{Datagram, Record, Records};
 use data_format::{Fault, FaultKind};
+use std::alloc::Global;
 use std::test::Fail;
 use wire_spec::Pad;
 
@@ -12,9 +13,10 @@ struct Case<'a> {
     length: u32,
     // The sample's fields, with the count of its records.
     fields: &'a [u32],
-    // The records, as words and then as bytes.
+    // The records, as words and then as bytes, the last of which are padding.
     words: &'a [u32],
-    rest: &'a [&'a [u8]],
+    bytes: &'a [u8],
+    padding: &'a [u8],
     // How long the datagram is.
     whole: usize,
     any: Option<Fault>,
@@ -123,16 +125,23 @@ fn compare(rt: &impl std::process::Abort, records: &mut Records<'_>, want: &[See
     assert!(rt; records.next().is_none());
 }
 
-fn try_case(rt: &impl std::process::Abort, bytes: &[u8], case: &Case<'_>) {
+fn try_case(rt: &impl std::process::Abort, alloc: Global, case: &Case<'_>) -> Result<(), Fail> {
+    let front = [1, case.number, case.length];
+    let bytes = bytes_of(
+        alloc,
+        &[&HEAD, &front, case.fields, case.words],
+        &[case.bytes, case.padding],
+    )?;
     assert_eq!(rt; bytes.len(), case.whole);
-    assert_eq!(rt; Datagram::parse(bytes, Pad::Zero).err(), case.zero);
-    match Datagram::parse(bytes, Pad::Any) {
+    assert_eq!(rt; Datagram::parse(&bytes, Pad::Zero).err(), case.zero);
+    match Datagram::parse(&bytes, Pad::Any) {
         Ok(datagram) => match datagram.samples().next() {
             Some(sample) => compare(rt, &mut sample.records(), case.records),
             None => assert!(rt; false),
         },
         Err(fault) => assert_eq!(rt; Some(fault), case.any),
     }
+    Ok(())
 }
 
 #[test]
@@ -151,7 +160,8 @@ fn records_of_each_kind(rt: HostRuntime) -> Result<(), Fail> {
             length: 124,
             fields: &ONE_RECORD,
             words: &[1, 84, 1, 65, 0, 65],
-            rest: &[&HEADER, &[1, 2, 3]],
+            bytes: &HEADER,
+            padding: &[1, 2, 3],
             whole: 160,
             any: None,
             zero: Some(pad),
@@ -162,7 +172,8 @@ fn records_of_each_kind(rt: HostRuntime) -> Result<(), Fail> {
             length: 100,
             fields: &ONE_RECORD,
             words: &GATEWAY,
-            rest: &[],
+            bytes: &[],
+            padding: &[],
             whole: 136,
             any: None,
             zero: None,
@@ -176,7 +187,8 @@ fn records_of_each_kind(rt: HostRuntime) -> Result<(), Fail> {
             length: 100,
             fields: &ONE_RECORD,
             words: &UNKNOWN_SEGMENT,
-            rest: &[],
+            bytes: &[],
+            padding: &[],
             whole: 136,
             any: Some(segment),
             zero: Some(segment),
@@ -187,7 +199,8 @@ fn records_of_each_kind(rt: HostRuntime) -> Result<(), Fail> {
             length: 72,
             fields: &TWO_RECORDS,
             words: &SWITCH,
-            rest: &[&[0xaa, 0xbb, 0xcc, 0]],
+            bytes: &[0xaa, 0xbb, 0xcc],
+            padding: &[0],
             whole: 108,
             any: None,
             zero: None,
@@ -207,7 +220,8 @@ fn records_of_each_kind(rt: HostRuntime) -> Result<(), Fail> {
             length: 108,
             fields: &[1, 5, 1],
             words: &INTERFACE,
-            rest: &[],
+            bytes: &[],
+            padding: &[],
             whole: 144,
             any: None,
             zero: None,
@@ -218,13 +232,7 @@ fn records_of_each_kind(rt: HostRuntime) -> Result<(), Fail> {
         },
     ];
     for case in &cases {
-        let front = [1, case.number, case.length];
-        let bytes = bytes_of(
-            rt.alloc(),
-            &[&HEAD, &front, case.fields, case.words],
-            case.rest,
-        )?;
-        try_case(&rt, &bytes, case);
+        try_case(&rt, rt.alloc(), case)?;
     }
     Ok(())
 }
