@@ -1,5 +1,5 @@
 -- What is read stands where its place says.
-use Rattle.std.proofs.Common.{◌≡◌, ℕ, zero, suc, ◌+◌, ◌≤◌, Bool, true, false, cond, ltb, List, [], ◌∷◌, ◌++◌, length, take, drop, Result, Ok, Err, refl, sym, ap, subst, ◌∙◌, append_assoc, arith}
+use Rattle.std.proofs.Common.{◌≡◌, ℕ, zero, suc, ◌+◌, ◌-◌, ◌≤◌, Bool, true, false, cond, ltb, List, [], ◌∷◌, ◌++◌, length, take, drop, Result, Ok, Err, refl, sym, ap, subst, ◌∙◌, append_assoc, append-nil, arith}
 use Rattle.std.proofs.lemmas.Bool.{ltb-false}
 use Rattle.std.proofs.lemmas.List.{length-append, length-take, length-drop, take-append-drop}
 use Rattle.std.proofs.Math.Seq.{take-append_seam, drop-append_seam}
@@ -15,7 +15,7 @@ use Rattle.wire_spec.proofs.Bodies.{body_is_there}
 use Rattle.wire_spec.proofs.Runs.{first_step, same_value}
 use Rattle.data_format.specs.Views.{FrameView, body_of}
 use Rattle.data_format.specs.Frames.{Test, frame_of, tested_at, checked_at, frames_at}
-use Rattle.data_format.specs.Ranges.{IsRange, AreRanges, StandsIn, StandIn}
+use Rattle.data_format.specs.Ranges.{IsRange, AreRanges, StandsIn, StandIn, EndsWith}
 
 -- what is left is the end of the whole, and its place is where
 abbrev pub IsEndOf : Remaining → Remaining → Type 0
@@ -191,3 +191,13 @@ nested_ranges whole f (g ∷ fs) h inner = (
   stands_range whole g (within (from_start whole) (body_of f) (body_of g) (range_stands whole f h) inner.0),
   nested_ranges whole f fs h inner.1,
 )
+
+-- and so is its end
+pub nested_end : (whole : List ℕ) (f : FrameView) (tail : List ℕ) → IsRange whole f.at f.body → EndsWith f.body tail
+    → IsRange whole (f.at + (length f.body - length tail)) tail
+nested_end whole f tail h (front, parts) =
+    let rest : FrameView = record { format = f.format; body = tail; at = f.at + (length f.body - length tail) } in
+    let place : rest.at ≡ f.at + length front = omega (arith, ap length parts, length-append front tail) in
+    let ends : StandsIn (body_of f) (body_of rest) =
+    (front, [], parts ∙ ap (λ (t : List ℕ). front ++ t) (sym (append-nil tail)), place) in
+    stands_range whole rest (within (from_start whole) (body_of f) (body_of rest) (range_stands whole f h) ends)

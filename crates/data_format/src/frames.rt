@@ -56,6 +56,7 @@ impl<'a> Frames<'a> {
             → IfErr result (λ f. Fails pad (array (frame T)) (remaining cursor.old) f) }
         ensures passes { (T : Table) → IsTestOf pad T (λ f. C.test check.now pad f) → IfOk result (λ fs. AllPass T fs) }
     {
+        // It tells that what is left are bytes.
         let _ = cursor.at();
         Frames::take(cursor, pad, check)
     }

@@ -1,10 +1,10 @@
 // What holds of samples and frames. Each is a function with nothing to do, whose contract is the law.
-ghost use Rattle.std.specs.Prelude.{◌≡◌, ℕ, List};
+ghost use Rattle.std.specs.Prelude.{◌≡◌, ℕ, ◌+◌, ◌-◌, List, length};
 ghost use Rattle.wire_spec.specs.Tables.{flow_table, counter_table, flow_sample, counters_sample, expanded_flow_sample, expanded_counters_sample};
 ghost use Rattle.data_format.specs.declared.heads.Form.TheVariants.{Compact, Expanded};
 ghost use Rattle.data_format.specs.declared.heads.FlowHead.{FlowHead};
 ghost use Rattle.data_format.specs.declared.heads.CountersHead.{CountersHead};
-ghost use Rattle.data_format.specs.Ranges.{IsRange, AreRanges, StandIn};
+ghost use Rattle.data_format.specs.Ranges.{IsRange, AreRanges, StandIn, EndsWith};
 ghost use Rattle.data_format.specs.Samples.{flow_over, counters_over, flow_trees, counters_trees, IsFlowHead, IsCountersHead};
 ghost use Rattle.data_format.specs.Views.{FrameView, body_of};
 
@@ -26,8 +26,11 @@ pub fn one_head_of_a_sample()
     ensures expanded_counters { (g h : CountersHead) → counters_trees Expanded g ≡ counters_trees Expanded h → g ≡ h }
 {}
 
-/// What stands in the body of a frame that is a range of some bytes is a range of these bytes itself.
+/// What stands in the body of a frame that is a range of some bytes is a range of these bytes itself, and so is the rest
+/// of the body behind it.
 pub fn ranges_within_ranges()
-    ensures { (whole : List ℕ) (f : FrameView) (records : List FrameView) → IsRange whole f.at f.body
+    ensures frames { (whole : List ℕ) (f : FrameView) (records : List FrameView) → IsRange whole f.at f.body
         → StandIn (body_of f) records → AreRanges whole records }
+    ensures tail { (whole : List ℕ) (f : FrameView) (tail : List ℕ) → IsRange whole f.at f.body
+        → EndsWith f.body tail → IsRange whole (f.at + (length f.body - length tail)) tail }
 {}

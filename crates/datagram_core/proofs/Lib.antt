@@ -1,3 +1,4 @@
 pub mod Whole
 pub mod Stand
 pub mod Empty
+pub mod Rows

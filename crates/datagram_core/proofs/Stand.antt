@@ -1,5 +1,5 @@
 -- The samples of a datagram stand in its bytes.
-use Rattle.std.proofs.Common.{◌≡◌, ℕ, Bool, true, false, cond, eqb, ltb, List, length, Result, Ok, Err, subst}
+use Rattle.std.proofs.Common.{◌≡◌, ℕ, Bool, true, false, cond, eqb, ltb, List, [], ◌∷◌, length, Result, Ok, Err, subst}
 use Rattle.std.specs.Prelude.{IfOk}
 use Rattle.wire_spec.specs.declared.pad.Pad.{Pad}
 use Rattle.wire_spec.specs.declared.fault.Fault.{Fault}
@@ -18,9 +18,11 @@ use Rattle.data_format.specs.Parts.{Parts, parts_at}
 use Rattle.data_format.specs.Ranges.{AreRanges}
 use Rattle.data_format.specs.Trees.{table_test}
 use Rattle.data_format.proofs.Parts.{parts_stand}
-use Rattle.data_format.proofs.Ranges.{all_of_it, end_of_word, all_ranges}
+use Rattle.data_format.specs.Views.{FrameView}
+use Rattle.data_format.proofs.Ranges.{all_of_it, end_of_word, all_ranges, nested_ranges}
 use Rattle.datagram_core.specs.Heads.{DatagramView, head_members}
 use Rattle.datagram_core.specs.Parts.{parts_of, behind_version_at, parts_reading}
+use Rattle.datagram_core.specs.Ranges.{BodiesAreRanges}
 use Rattle.datagram_core.specs.Tables.{samples_read}
 
 -- a choice between a value and a fault that gave the value
@@ -63,3 +65,13 @@ pub given_ranges : (p : Pad) (bytes : List ℕ) (r : Result DatagramView Fault) 
     → Gives parts_of (λ f. f) r (parts_reading p samples_read bytes) → IfOk r (λ d. AreRanges bytes d.samples)
 given_ranges p bytes (Ok d) fits e = datagram_stands p samples_read bytes (parts_of d) fits e
 given_ranges p bytes (Err f) fits e = tt
+
+-- and so is what stands in it
+nested : (whole : List ℕ) (fs : List FrameView) → AreRanges whole fs → BodiesAreRanges whole fs
+nested whole [] h = tt
+nested whole (f ∷ fs) h = (λ records inner. nested_ranges whole f records h.0 inner, nested whole fs h.1)
+
+pub given_nested : (bytes : List ℕ) (r : Result DatagramView Fault) → IfOk r (λ d. AreRanges bytes d.samples)
+    → IfOk r (λ d. BodiesAreRanges bytes d.samples)
+given_nested bytes (Ok d) stand = nested bytes d.samples stand
+given_nested bytes (Err f) stand = tt

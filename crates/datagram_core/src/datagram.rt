@@ -10,6 +10,7 @@ ghost use Rattle.data_format.specs.Ranges.{AreRanges};
 ghost use Rattle.data_format.specs.Trees.{table_test};
 ghost use Rattle.datagram_core.specs.Heads.{head_of, head_members, head_trees};
 ghost use Rattle.datagram_core.specs.Parts.{parts_of, behind_version_at, parts_reading};
+ghost use Rattle.datagram_core.specs.Ranges.{BodiesAreRanges};
 ghost use Rattle.datagram_core.specs.Tables.{samples_read, datagram_read};
 ghost use Rattle.datagram_core.specs.Trees.{tree_of};
 
@@ -48,8 +49,9 @@ impl<'a> Datagram<'a> {
         ensures fault { IfErr result (λ f. FailsWhole pad datagram_read bytes.now f) }
         ensures exact { Gives tree_of (λ f. f) result (whole_reading pad datagram_read bytes.now) }
 
-        // The body of each sample is the range of the bytes at its place.
+        // The body of each sample is the range of the bytes at its place, and so is the body of each of its records.
         ensures ranges { IfOk result (λ d. AreRanges bytes.now d.samples) }
+        ensures nested { IfOk result (λ d. BodiesAreRanges bytes.now d.samples) }
 
         // Without samples it is the datagram of the whole grammar, and each such datagram is read.
         ensures empty { IfOk result (λ d. d.samples ≡ []

@@ -4,15 +4,10 @@ ghost use Rattle.data_format.specs.Views.{FrameView};
 ghost use Rattle.datagram_core.specs.Samples.{IsSampleOf};
 ghost use Rattle.datagram_core.specs.Tables.{samples_read};
 
-use data_format::{Frame, Frames};
+use crate::Sample;
+use data_format::Frames;
 use std::marker::Model;
-
-/// A sample of a datagram.
-#[derive(Drop)]
-pub enum Sample<'a> {
-    /// A sample of a format that isn't read, as its frame.
-    Other(Frame<'a>),
-}
+use wire_spec::Pad;
 
 /// The samples of a datagram that are still to be given, in their order. Contracts see the list of their frames.
 #[derive(Drop)]
@@ -57,6 +52,9 @@ impl<'a> Samples<'a> {
         ensures some { IfSome result (λ s. (f : FrameView) × (self.old ≡ f ∷ self.new) × IsSampleOf f s) }
     {
         let frame = self.frames.next()?;
-        Some(Sample::Other(frame))
+        match Sample::read(frame, Pad::Any) {
+            Ok(sample) => Some(sample),
+            Err(_) => unreachable!(),
+        }
     }
 }

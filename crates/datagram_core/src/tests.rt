@@ -68,13 +68,13 @@ fn addresses_of_each_kind(rt: HostRuntime) -> Result<(), Fail> {
     Ok(())
 }
 
-// A count of two; format 1:1 with three bytes and their padding; format 0:1 with no bytes.
+// A count of two; format 4413:7 with three bytes and their padding; format 0:9 with no bytes.
 const TWO_FRAMES: [u8; 24] = [
-    0, 0, 0, 2, 0, 0, 0x10, 1, 0, 0, 0, 3, 7, 8, 9, 0, 0, 0, 0, 1, 0, 0, 0, 0,
+    0, 0, 0, 2, 1, 0x13, 0xd0, 7, 0, 0, 0, 3, 7, 8, 9, 0, 0, 0, 0, 9, 0, 0, 0, 0,
 ];
 
 #[test]
-fn samples_in_their_order(rt: HostRuntime) -> Result<(), Fail> {
+fn samples_of_unknown_formats(rt: HostRuntime) -> Result<(), Fail> {
     let mut bytes = [0; 48];
     bytes[..24].copy_from_slice(&DATAGRAM[..24]);
     bytes[24..].copy_from_slice(&TWO_FRAMES);
@@ -85,22 +85,22 @@ fn samples_in_their_order(rt: HostRuntime) -> Result<(), Fail> {
             assert_eq!(rt;
                 frame.format,
                 Format {
-                    enterprise: 1,
-                    number: 1
+                    enterprise: 4413,
+                    number: 7
                 }
             );
             assert_eq!(rt; frame.body, [7, 8, 9].as_slice());
             assert_eq!(rt; frame.at, 36);
         }
-        None => assert!(rt; false),
+        _ => assert!(rt; false),
     }
     match samples.fork().next() {
         Some(Sample::Other(frame)) => {
-            assert_eq!(rt; frame.format.to_word(), 1);
+            assert_eq!(rt; frame.format.to_word(), 9);
             assert_eq!(rt; frame.body.len(), 0);
             assert_eq!(rt; frame.at, 48);
         }
-        None => assert!(rt; false),
+        _ => assert!(rt; false),
     }
     assert!(rt; samples.next().is_some());
     assert!(rt; samples.next().is_none());

@@ -1,7 +1,7 @@
 use Rattle.std.proofs.Common.{arith}
 use Rattle.wire_spec.specs.Bytes.{AreBytes}
 use Rattle.datagram_core.proofs.Empty.{given_empty, given_complete}
-use Rattle.datagram_core.proofs.Stand.{given_ranges}
+use Rattle.datagram_core.proofs.Stand.{given_ranges, given_nested}
 use Rattle.datagram_core.proofs.Whole.{given_whole, given_spelled, given_fault}
 use Rattle.datagram_core.proofs.datagram.Datagram.parse.Goals as goal
 
@@ -13,11 +13,13 @@ returns c =
     let fits : AreBytes bytes = λ i. omega (arith, c.type_inv.bytes i) in
     let exact = given_whole p bytes r c.parse_parts.ensures in
     let spelled = given_spelled p bytes r fits exact in
+    let ranges = given_ranges p bytes r fits c.parse_parts.ensures in
     record {
       spelled = spelled;
       fault = given_fault p bytes r fits exact;
       exact = exact;
-      ranges = given_ranges p bytes r fits c.parse_parts.ensures;
+      ranges = ranges;
+      nested = given_nested bytes r ranges;
       empty = given_empty p bytes r spelled;
       complete = given_complete p bytes r exact;
     }
