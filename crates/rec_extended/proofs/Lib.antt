@@ -1,3 +1,4 @@
 pub mod WordRuns
 pub mod Paths
 pub mod Bodies
+pub mod Lists

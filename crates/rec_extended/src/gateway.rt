@@ -64,8 +64,10 @@ impl<'a> GatewayRec<'a> {
         ensures spelled { IfOk result (λ r. SpellsFront pad extended_gateway frame.entry.body.now (gateway_content r)) }
         ensures fault { IfErr result (λ f. Fails pad extended_gateway (body_of (frame_view frame.entry)) f) }
 
-        // The tail is the rest of the body.
+        // The tail is the rest of the body, and the lists are within it.
         ensures tail { IfOk result (λ r. EndsWith frame.entry.body.now r.tail.now) }
+        ensures path { IfOk result (λ r. length (spell_all (segment_trees (path_of r))) ≤ length frame.entry.body.now) }
+        ensures communities { IfOk result (λ r. length (spell_all (word_trees (communities_of r))) ≤ length frame.entry.body.now) }
     {
         GatewayRec::within(frame.body, frame.at, pad)
     }
