@@ -16,3 +16,6 @@ pub use router::RouterRec;
 pub use segment::Segment;
 pub use switch::SwitchRec;
 pub use words::Words;
+
+#[cfg(test)]
+mod tests;
