@@ -13,9 +13,9 @@ use Rattle.wire_spec.specs.Tables.{extended_gateway}
 use Rattle.wire_spec.specs.Whole.{SpellsFront}
 use Rattle.wire_spec.proofs.Spellings.{spelled_length}
 use Rattle.rec_extended.specs.declared.gateway.GatewayRec.{GatewayRec}
-use Rattle.rec_extended.specs.Paths.{segment_trees}
+use Rattle.as_paths.specs.Paths.{segment_trees}
 use Rattle.rec_extended.specs.RouteContents.{gateway_content, path_of, communities_of}
-use Rattle.rec_extended.specs.WordLists.{word_trees}
+use Rattle.as_paths.specs.WordLists.{word_trees}
 
 -- a part is no longer than what it is joined to
 behind : (front back : List ℕ) (n : ℕ) → n ≤ length back → n ≤ length (front ++ back)

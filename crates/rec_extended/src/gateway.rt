@@ -10,8 +10,8 @@ ghost use Rattle.xdr_words.specs.Written.{Puts};
 ghost use Rattle.data_format.specs.Ranges.{EndsWith};
 ghost use Rattle.data_format.specs.Records.{record_reading, record_bytes, IsReadFrom};
 ghost use Rattle.data_format.specs.Views.{body_of, frame_view};
-ghost use Rattle.rec_extended.specs.Paths.{segment_trees};
-ghost use Rattle.rec_extended.specs.WordLists.{word_trees};
+ghost use Rattle.as_paths.specs.Paths.{segment_trees};
+ghost use Rattle.as_paths.specs.WordLists.{word_trees};
 ghost use Rattle.rec_extended.specs.RouteContents.{gateway_content, gateway_parts, path_of, communities_of};
 
 use crate::address_parts::address_parts;
