@@ -9,7 +9,7 @@ use Rattle.wire_spec.specs.declared.pad.Pad.{Pad}
 use Rattle.wire_spec.specs.declared.pad.Pad.TheVariants as pads
 use Rattle.wire_spec.specs.declared.fault.Fault.{Fault}
 use Rattle.wire_spec.specs.Bytes.{AreBytes}
-use Rattle.wire_spec.specs.Shapes.{word, array, Tree, Trees, count_of}
+use Rattle.wire_spec.specs.Shapes.{word, array, Tree, Trees}
 use Rattle.wire_spec.specs.Spells.{IsWord, IsFixed}
 use Rattle.wire_spec.specs.Spelling.{spell_all, AllTrees, IsLawful}
 use Rattle.wire_spec.specs.Fails.{Remaining, short, FailsPadding, FailsFixed}
