@@ -10,6 +10,7 @@ mod frames;
 mod heads;
 mod laws;
 mod mac;
+mod part_laws;
 mod port;
 mod source;
 
@@ -21,6 +22,7 @@ pub use frames::Frames;
 pub use heads::{CountersHead, FlowHead, Form};
 pub use laws::{one_head_of_a_sample, ranges_within_ranges, samples_over_all_records};
 pub use mac::Mac;
+pub use part_laws::parts_within_ranges;
 pub use port::Port;
 pub use source::SourceId;
 pub use wire_spec::{Fault, FaultKind};

@@ -8,3 +8,6 @@ mod vlan;
 pub use ethernet::EthernetCounters;
 pub use interface::IfCounters;
 pub use vlan::VlanCounters;
+
+#[cfg(test)]
+mod tests;

@@ -1,3 +1,2 @@
-pub mod WordRuns
-pub mod Paths
 pub mod Bodies
+pub mod Lists

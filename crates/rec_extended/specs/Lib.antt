@@ -1,4 +1,2 @@
 pub mod Contents
-pub mod WordLists
-pub mod Paths
 pub mod RouteContents

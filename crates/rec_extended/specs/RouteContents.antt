@@ -7,9 +7,9 @@ use Rattle.data_format.specs.Records.{Content}
 use Rattle.rec_extended.specs.declared.router.RouterRec.{RouterRec}
 use Rattle.rec_extended.specs.declared.gateway.GatewayHead.{GatewayHead}
 use Rattle.rec_extended.specs.declared.gateway.GatewayRec.{GatewayRec}
-use Rattle.rec_extended.specs.declared.segment.Segment.{Segment}
-use Rattle.rec_extended.specs.WordLists.{word_trees}
-use Rattle.rec_extended.specs.Paths.{segment_trees}
+use Rattle.as_paths.specs.declared.segment.Segment.{Segment}
+use Rattle.as_paths.specs.WordLists.{word_trees}
+use Rattle.as_paths.specs.Paths.{segment_trees}
 
 abbrev pub router_content : RouterRec → Content
 router_content r = (

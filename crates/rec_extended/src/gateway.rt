@@ -10,8 +10,8 @@ ghost use Rattle.xdr_words.specs.Written.{Puts};
 ghost use Rattle.data_format.specs.Ranges.{EndsWith};
 ghost use Rattle.data_format.specs.Records.{record_reading, record_bytes, IsReadFrom};
 ghost use Rattle.data_format.specs.Views.{body_of, frame_view};
-ghost use Rattle.rec_extended.specs.Paths.{segment_trees};
-ghost use Rattle.rec_extended.specs.WordLists.{word_trees};
+ghost use Rattle.as_paths.specs.Paths.{segment_trees};
+ghost use Rattle.as_paths.specs.WordLists.{word_trees};
 ghost use Rattle.rec_extended.specs.RouteContents.{gateway_content, gateway_parts, path_of, communities_of};
 
 use crate::address_parts::address_parts;
@@ -64,8 +64,10 @@ impl<'a> GatewayRec<'a> {
         ensures spelled { IfOk result (λ r. SpellsFront pad extended_gateway frame.entry.body.now (gateway_content r)) }
         ensures fault { IfErr result (λ f. Fails pad extended_gateway (body_of (frame_view frame.entry)) f) }
 
-        // The tail is the rest of the body.
+        // The tail is the rest of the body, and the lists are within it.
         ensures tail { IfOk result (λ r. EndsWith frame.entry.body.now r.tail.now) }
+        ensures path { IfOk result (λ r. length (spell_all (segment_trees (path_of r))) ≤ length frame.entry.body.now) }
+        ensures communities { IfOk result (λ r. length (spell_all (word_trees (communities_of r))) ≤ length frame.entry.body.now) }
     {
         GatewayRec::within(frame.body, frame.at, pad)
     }

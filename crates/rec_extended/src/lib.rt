@@ -4,15 +4,13 @@
 
 mod address_parts;
 mod gateway;
-mod path;
 mod router;
-mod segment;
 mod switch;
-mod words;
 
+pub use as_paths::{AsPath, Segment, Words};
 pub use gateway::{GatewayHead, GatewayRec};
-pub use path::AsPath;
 pub use router::RouterRec;
-pub use segment::Segment;
 pub use switch::SwitchRec;
-pub use words::Words;
+
+#[cfg(test)]
+mod tests;

@@ -11,3 +11,6 @@ pub use ethernet::EthernetRec;
 pub use ipv4::Ipv4Rec;
 pub use ipv6::Ipv6Rec;
 pub use raw::RawHeader;
+
+#[cfg(test)]
+mod tests;

@@ -3,10 +3,10 @@ use Rattle.wire_spec.specs.Heads.{address_tree}
 use Rattle.wire_spec.specs.Shapes.{Tree, count_of}
 use Rattle.wire_spec.specs.Spelling.{spell, spell_all, padded}
 use Rattle.data_format.specs.Addresses.{address_of}
-use Rattle.rec_extended.specs.Paths.{segment_tree, segment_trees}
-use Rattle.rec_extended.specs.WordLists.{word_trees}
+use Rattle.as_paths.specs.Paths.{segment_tree, segment_trees}
+use Rattle.as_paths.specs.WordLists.{word_trees}
 use Rattle.rec_extended.proofs.Bodies.{unpadded, gateway_body}
-use Rattle.rec_extended.proofs.WordRuns.{count-trees}
+use Rattle.as_paths.proofs.Arrays.{count-trees}
 use Rattle.rec_extended.proofs.gateway.GatewayRec.items.Goals as goal
 
 pub returns-clause-body : goal.returns-clause-body

@@ -1,5 +1,0 @@
-use Rattle.rec_extended.proofs.Paths.{counted_segments}
-use Rattle.rec_extended.proofs.path.AsPath.read.Goals as goal
-
-pub returns-clause-exact : goal.returns-clause-exact
-returns-clause-exact c = counted_segments c.args.cursor.now _ c.take_counted.result c.take_counted.ensures
