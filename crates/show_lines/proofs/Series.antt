@@ -6,7 +6,7 @@ use Rattle.data_format.specs.Trees.{trees_of}
 use Rattle.data_format.specs.Views.{FrameView}
 use Rattle.text_lines.specs.Pages.{Puts, Prints}
 use Rattle.text_lines.proofs.PageLaws.{puts_none, puts_both, puts_fails, prints_err}
-use Rattle.show_lines.specs.Shown.{texts_of}
+use Rattle.show_lines.specs.Joined.{texts_of}
 
 -- the texts of the values that the frames have
 abbrev pub shown : (Tree → List ℕ) → (FrameView → Tree) → List FrameView → List ℕ

@@ -1,4 +1,7 @@
+pub mod CounterLines
 pub mod Fields
+pub mod FlowLines
+pub mod Joined
 pub mod Lines
 pub mod Shown
 pub mod Worked

@@ -1,9 +1,12 @@
 //! The lines that show an entry of a capture: its datagram with the samples and records, or the fault of its bytes.
 #![tactic(auto)]
 
+mod counters;
 mod entry;
+mod headers;
 mod laws;
 mod lines;
+mod parts;
 mod record;
 mod sample;
 

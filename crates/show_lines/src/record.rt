@@ -7,7 +7,8 @@ ghost use Rattle.datagram_core.specs.declared.records.RecordKind.{RecordKind};
 ghost use Rattle.sflow_io.specs.Causes.{HasCause};
 ghost use Rattle.text_lines.specs.Pages.{Prints};
 ghost use Rattle.show_lines.specs.Fields.{tail_in};
-ghost use Rattle.show_lines.specs.Shown.{texts_of, record_text, record_front};
+ghost use Rattle.show_lines.specs.Joined.{texts_of};
+ghost use Rattle.show_lines.specs.Shown.{record_text, record_front};
 
 use crate::lines::{put_frame, put_line_end};
 use datagram_core::{Record, Records};
