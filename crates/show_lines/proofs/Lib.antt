@@ -1,3 +1,4 @@
+pub mod Lists
 pub mod Series
 pub mod Places
 pub mod Apart

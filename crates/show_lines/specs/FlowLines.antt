@@ -1,5 +1,5 @@
 -- The lines of flow records, up to the tail, from the members of each (sFlow Version 5, section 5).
-use Rattle.std.specs.Prelude.{ℕ, List, [], ◌∷◌, ◌++◌, codes, decimal, length}
+use Rattle.std.specs.Prelude.{ℕ, List, [], ◌∷◌, codes, decimal, length}
 use Rattle.std.specs.List.{concat}
 use Rattle.wire_spec.specs.Shapes.{Trees}
 use Rattle.wire_spec.specs.Texts.{address_text, dotted, grouped}
@@ -71,8 +71,8 @@ route_text m = concat (
 
 -- the same, and then path, communities, local preference
 unfoldable pub gateway_front : Trees → List ℕ
-gateway_front m =
-    route_text m ++
-    codes " path " ++ path_text (values_of (member 4 m)) ++
-    codes " communities " ++ list_text (values_of (member 5 m)) ++
-    codes " localpref " ++ decimal (number_in 6 m)
+gateway_front m = concat (
+    route_text m ∷
+    codes " path " ∷ path_text (values_of (member 4 m)) ∷
+    codes " communities " ∷ list_text (values_of (member 5 m)) ∷
+    codes " localpref " ∷ decimal (number_in 6 m) ∷ [])

@@ -24,9 +24,13 @@ list_text numbers = joined (codes ",") number_text numbers
 abbrev pub spaced_text : Trees → List ℕ
 spaced_text numbers = texts_of (λ n. codes " " ++ number_text n) numbers
 
--- a part of an AS path: 1 is a set, 2 a sequence
+-- 1 is a set, 2 a sequence
+abbrev pub segment_name : ℕ → List ℕ
+segment_name k = if k == 1 then codes "set:" else codes "seq:"
+
+-- a part of an AS path
 unfoldable pub segment_text : Tree → List ℕ
-segment_text (union k (array numbers)) = (if k == 1 then codes "set:" else codes "seq:") ++ list_text numbers
+segment_text (union k (array numbers)) = segment_name k ++ list_text numbers
 segment_text _ = []
 
 -- an AS path

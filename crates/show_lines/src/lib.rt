@@ -3,10 +3,12 @@
 
 mod counters;
 mod entry;
+mod extended;
 mod headers;
 mod laws;
 mod lines;
 mod parts;
+mod path;
 mod record;
 mod sample;
 
