@@ -1,6 +1,6 @@
--- Which part of the grammar is read: the samples of the standard's formats, and in them the records of some formats,
--- by their fields; all others as frames.
+-- What is read: the samples and the records of the standard's formats, by their fields; all others as frames.
 use Rattle.wire_spec.specs.Shapes.{version, Shape, union, Table, empty, row}
+use Rattle.wire_spec.specs.Tables.{flow_table, counter_table}
 use Rattle.data_format.specs.declared.heads.Form.TheVariants.{Compact, Expanded}
 use Rattle.data_format.specs.Parts.{with_frames}
 use Rattle.data_format.specs.Samples.{flow_over, counters_over}
@@ -18,13 +18,13 @@ samples_over flows counters =
     row 3 (flow_over Expanded flows) (
     row 4 (counters_over Expanded counters) empty)))
 
--- the formats of flow records that are read by their fields: none yet
-abbrev pub flow_records_read : Table
-flow_records_read = empty
+-- the formats of flow records that are read by their fields
+unfoldable pub flow_records_read : Table
+flow_records_read = flow_table
 
 -- and those of counter records
-abbrev pub counter_records_read : Table
-counter_records_read = empty
+unfoldable pub counter_records_read : Table
+counter_records_read = counter_table
 
 -- the samples over them
 unfoldable pub samples_read : Table

@@ -1,10 +1,12 @@
-// What holds of the tables of samples. A function here has nothing to do: its contract is the law.
+// What holds of the tables that are read. A function here has nothing to do: its contract is the law.
 ghost use Rattle.std.specs.Prelude.{◌≡◌};
 ghost use Rattle.wire_spec.specs.Tables.{flow_table, counter_table, sample_table, datagram};
-ghost use Rattle.datagram_core.specs.Tables.{samples_over, datagram_over};
+ghost use Rattle.datagram_core.specs.Tables.{flow_records_read, counter_records_read, samples_read, datagram_read};
 
-/// Over the tables of all records the samples and datagrams are those of the standard.
+/// What is read is the whole grammar: its flow records, its counter records, its samples and its datagrams.
 pub fn datagrams_over_all_records()
-    ensures samples { samples_over flow_table counter_table ≡ sample_table }
-    ensures datagrams { datagram_over (samples_over flow_table counter_table) ≡ datagram }
+    ensures flows { flow_records_read ≡ flow_table }
+    ensures counters { counter_records_read ≡ counter_table }
+    ensures samples { samples_read ≡ sample_table }
+    ensures datagrams { datagram_read ≡ datagram }
 {}

@@ -1,12 +1,11 @@
 //! Datagrams of sFlow Version 5 (section 5), their samples and their records, read from borrowed bytes.
-//!
-//! No format of records is read yet: a record is its frame, and the check of a record's body finds no fault.
 #![tactic(auto)]
 
 mod check;
 mod datagram;
 mod head;
 mod laws;
+mod record;
 mod records;
 mod sample;
 mod samples;

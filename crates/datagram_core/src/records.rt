@@ -4,6 +4,9 @@ ghost use Rattle.data_format.specs.Views.{FrameView};
 ghost use Rattle.datagram_core.specs.Records.{IsRecordOf, table_of};
 
 use data_format::{BodyCheck, Fault, Frame, Frames};
+use rec_counters::{EthernetCounters, IfCounters, VlanCounters};
+use rec_extended::{GatewayRec, RouterRec, SwitchRec};
+use rec_headers::{EthernetRec, Ipv4Rec, Ipv6Rec, RawHeader};
 use std::marker::Model;
 use wire_spec::Pad;
 
@@ -21,16 +24,36 @@ pub enum RecordKind {
 impl BodyCheck for RecordKind {
     ghost test = { λ kind p f. table_test p (table_of kind) f };
 
-    // No format of records is read yet.
-    fn check(&self, _frame: Frame<'_>, _pad: Pad) -> Result<(), Fault> {
+    fn check(&self, frame: Frame<'_>, pad: Pad) -> Result<(), Fault> {
+        Record::read(*self, frame, pad)?;
         Ok(())
     }
 }
 
-/// A record of a sample.
+/// A record of a sample (sFlow Version 5, section 5).
 #[derive(Drop)]
 pub enum Record<'a> {
-    /// A record of a format that isn't read, as its frame.
+    /// The first bytes of the packet, flow record format 1 of the standard.
+    RawHeader(RawHeader<'a>),
+    /// The packet's Ethernet header, flow record format 2 of the standard.
+    Ethernet(EthernetRec<'a>),
+    /// The packet's IPv4 header, flow record format 3 of the standard.
+    Ipv4(Ipv4Rec<'a>),
+    /// The packet's IPv6 header, flow record format 4 of the standard.
+    Ipv6(Ipv6Rec<'a>),
+    /// The packet's VLANs, flow record format 1001 of the standard.
+    Switch(SwitchRec<'a>),
+    /// The packet's route, flow record format 1002 of the standard.
+    Router(RouterRec<'a>),
+    /// The packet's BGP route, flow record format 1003 of the standard.
+    Gateway(GatewayRec<'a>),
+    /// The counters of an interface, counter record format 1 of the standard.
+    IfCounters(IfCounters<'a>),
+    /// The counters of an Ethernet interface, counter record format 2 of the standard.
+    EthernetCounters(EthernetCounters<'a>),
+    /// The counters of a VLAN, counter record format 5 of the standard.
+    VlanCounters(VlanCounters<'a>),
+    /// A record of any other format of its kind, as its frame.
     Other(Frame<'a>),
 }
 
@@ -69,6 +92,9 @@ impl<'a> Records<'a> {
         ensures kind { self.new.kind ≡ self.old.kind }
     {
         let frame = self.frames.next()?;
-        Some(Record::Other(frame))
+        match Record::read(self.kind, frame, Pad::Any) {
+            Ok(record) => Some(record),
+            Err(_) => unreachable!(),
+        }
     }
 }

@@ -101,7 +101,7 @@ fn try_case(
                     assert_eq!(rt; record.body, [0xaa, 0xbb, 0xcc].as_slice());
                     assert_eq!(rt; record.at, case.at);
                 }
-                None => assert!(rt; false),
+                _ => assert!(rt; false),
             }
             assert!(rt; records.next().is_none());
         }
