@@ -1,3 +1,5 @@
+pub mod Fronts
+pub mod Rows
 pub mod Lists
 pub mod Series
 pub mod Places

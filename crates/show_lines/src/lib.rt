@@ -13,7 +13,7 @@ mod record;
 mod sample;
 
 pub use entry::{put_entry, show_entry};
-pub use laws::{shown_as_the_grammar_says, worked_entries};
+pub use laws::{shown_as_the_grammar_says, worked_entries, worked_records};
 
 #[cfg(test)]
 mod tests;
