@@ -26,7 +26,8 @@ use Rattle.datagram_core.specs.declared.sample.Sample.{Sample}
 use Rattle.datagram_core.specs.declared.sample.Sample.TheVariants as samples
 use Rattle.show_lines.specs.Fields.{format_of, members_of, address_in, flow_head_in, counters_head_in, flow_records_in, counter_records_in}
 use Rattle.show_lines.specs.Lines.{datagram_line, flow_front, counters_front, frame_front}
-use Rattle.show_lines.specs.Shown.{texts_of, record_text, flow_text, counters_text, sample_front, sample_records, sample_text, datagram_text}
+use Rattle.show_lines.specs.Joined.{texts_of}
+use Rattle.show_lines.specs.Shown.{record_text, flow_text, counters_text, sample_front, sample_records, sample_text, datagram_text}
 
 -- ---- numbers of one word
 

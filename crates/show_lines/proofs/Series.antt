@@ -1,29 +1,28 @@
--- Texts of frames that are put one after the other.
+-- Texts of frames, segments or words that are put one after the other.
 use Rattle.std.proofs.Common.{◌≡◌, ℕ, List, [], ◌∷◌, ◌++◌, Option, Result, IsErrAnd, refl, sym, ap, subst, ◌∙◌, append_assoc, append-nil}
 use Rattle.wire_spec.specs.Shapes.{Tree}
 use Rattle.sflow_io.specs.Streams.{AppendsPrefix}
 use Rattle.data_format.specs.Trees.{trees_of}
-use Rattle.data_format.specs.Views.{FrameView}
 use Rattle.text_lines.specs.Pages.{Puts, Prints}
 use Rattle.text_lines.proofs.PageLaws.{puts_none, puts_both, puts_fails, prints_err}
-use Rattle.show_lines.specs.Shown.{texts_of}
+use Rattle.show_lines.specs.Joined.{texts_of}
 
--- the texts of the values that the frames have
-abbrev pub shown : (Tree → List ℕ) → (FrameView → Tree) → List FrameView → List ℕ
-shown text view frames = texts_of text (trees_of view frames)
+-- the texts of their values
+abbrev pub shown : {A : Type 0} → (Tree → List ℕ) → (A → Tree) → List A → List ℕ
+shown text view all = texts_of text (trees_of view all)
 
--- these frames are left of all, and the texts of the others were put
-pub record SoFar (text : Tree → List ℕ) (view : FrameView → Tree) (all left : List FrameView)
+-- these are left of all, and the texts of the others were put
+pub record SoFar {A : Type 0} (text : Tree → List ℕ) (view : A → Tree) (all left : List A)
     (a b : Option (List ℕ)) (p q : List ℕ) : Type 0 where
   pub done : List ℕ
   pub whole : shown text view all ≡ done ++ shown text view left
   pub put : Puts a b p q done
 
-pub nothing_yet : (text : Tree → List ℕ) (view : FrameView → Tree) (all : List FrameView) (a : Option (List ℕ))
+pub nothing_yet : {A : Type 0} (text : Tree → List ℕ) (view : A → Tree) (all : List A) (a : Option (List ℕ))
     (p : List ℕ) → SoFar text view all all a a p p
 nothing_yet text view all a p = record { done = []; whole = refl; put = puts_none a p }
 
-module _ (text : Tree → List ℕ) (view : FrameView → Tree) (all left : List FrameView)
+module _ {A : Type 0} (text : Tree → List ℕ) (view : A → Tree) (all left : List A)
     (a b : Option (List ℕ)) (p q : List ℕ) (far : SoFar text view all left a b p q) where
   -- none is left
   pub all_put : left ≡ [] → Puts a b p q (shown text view all)
@@ -32,7 +31,7 @@ module _ (text : Tree → List ℕ) (view : FrameView → Tree) (all left : List
       sym (far.whole ∙ ap (λ l. far.done ++ shown text view l) none ∙ append-nil far.done) in
       subst (Puts a b p q) whole far.put
 
-  module _ (f : FrameView) (rest : List FrameView) (line : List ℕ) (c : Option (List ℕ)) (n : List ℕ)
+  module _ (f : A) (rest : List A) (line : List ℕ) (c : Option (List ℕ)) (n : List ℕ)
       (next : left ≡ f ∷ rest) (same : line ≡ text (view f)) where
     split : shown text view all ≡ far.done ++ (line ++ shown text view rest)
     split = far.whole ∙ ap (λ l. far.done ++ shown text view l) next

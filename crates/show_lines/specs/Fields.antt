@@ -1,6 +1,6 @@
 -- The fields of a value, by their places in its format (sFlow Version 5, section 5).
 use Rattle.std.specs.Prelude.{ℕ, zero, suc, ◌/◌, ◌%◌, ◌==◌, List, [], if◌then◌else◌}
-use Rattle.wire_spec.specs.Shapes.{word, hyper, fixed, array, structure, union, Tree, known, Trees, none, ◌&◌}
+use Rattle.wire_spec.specs.Shapes.{word, hyper, fixed, opaque, array, structure, union, Tree, known, Trees, none, ◌&◌}
 use Rattle.wire_spec.specs.Heads.{AgentAddress, unknown, ipv4, ipv6, Head}
 use Rattle.data_format.specs.declared.format.Format.{Format}
 use Rattle.data_format.specs.declared.heads.Form.{Form}
@@ -39,6 +39,15 @@ number_of _ = 0
 
 abbrev pub number_in : ℕ → Trees → ℕ
 number_in k members = number_of (member k members)
+
+-- the bytes of a fixed or an opaque value
+abbrev pub bytes_of : Tree → List ℕ
+bytes_of (fixed bytes) = bytes
+bytes_of (opaque bytes) = bytes
+bytes_of _ = []
+
+abbrev pub bytes_in : ℕ → Trees → List ℕ
+bytes_in k members = bytes_of (member k members)
 
 -- ---- datagrams
 

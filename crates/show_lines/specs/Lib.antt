@@ -1,9 +1,14 @@
+pub mod CounterLines
 pub mod Fields
+pub mod FlowLines
+pub mod Joined
 pub mod Lines
 pub mod Shown
 pub mod Worked
+pub mod WorkedRecords
 pub use Rattle.datagram_core.specs.Tables
 pub use Rattle.sflow_io.specs.Causes
 pub use Rattle.sflow_io.specs.Streams
 pub use Rattle.text_lines.specs.Pages
 pub use Rattle.wire_spec.specs.Captures
+pub use Rattle.wire_spec.specs.RecordExamples

@@ -4,25 +4,48 @@ use Rattle.std.specs.Prelude.{ℕ, ◌==◌, List, [], ◌++◌, codes, length, 
 use Rattle.wire_spec.specs.declared.pad.Pad.TheVariants.{Any}
 use Rattle.wire_spec.specs.declared.fault.Fault.{Fault}
 use Rattle.wire_spec.specs.Captures.{Entry}
-use Rattle.wire_spec.specs.Shapes.{union, Tree, known, other, Trees, none, ◌&◌, count_of}
+use Rattle.wire_spec.specs.Shapes.{union, Tree, known, other, Trees, count_of}
 use Rattle.wire_spec.specs.Whole.{whole_reading}
 use Rattle.data_format.specs.declared.heads.Form.{Form}
 use Rattle.data_format.specs.declared.heads.Form.TheVariants.{Compact, Expanded}
 use Rattle.datagram_core.specs.Tables.{datagram_read}
 use Rattle.datagram_core.specs.declared.records.RecordKind.{RecordKind}
-use Rattle.datagram_core.specs.declared.records.RecordKind.TheVariants.{Flow, Counters}
+use Rattle.datagram_core.specs.declared.records.RecordKind.TheVariants.{Flow, Counters, Unknown}
 use Rattle.show_lines.specs.Fields.{format_of, members_of, values_of, member, head_in, flow_head_in, counters_head_in, flow_records_in, counter_records_in, tail_in}
+use Rattle.show_lines.specs.CounterLines.{interface_front, dot3_front, vlan_front}
+use Rattle.show_lines.specs.FlowLines.{header_front, ethernet_front, ipv4_front, ipv6_front, switch_front, router_front, gateway_front}
+use Rattle.show_lines.specs.Joined.{texts_of}
 use Rattle.show_lines.specs.Lines.{entry_line, fault_line, datagram_line, flow_front, counters_front, frame_front, line_end}
-
--- the texts of values, one after the other
-abbrev pub texts_of : (Tree → List ℕ) → Trees → List ℕ
-texts_of text none = []
-texts_of text (t & more) = text t ++ texts_of text more
 
 -- ---- records
 
--- the line of a record, up to its tail. No format of the two tables is read yet
+-- the line of a flow record with these members, by its format, up to its tail
+abbrev pub flow_record_front : ℕ → Trees → List ℕ
+flow_record_front k members =
+    if k == 1 then header_front members else (
+    if k == 2 then ethernet_front members else (
+    if k == 3 then ipv4_front members else (
+    if k == 4 then ipv6_front members else (
+    if k == 1001 then switch_front members else (
+    if k == 1002 then router_front members else (
+    if k == 1003 then gateway_front members else []))))))
+
+-- the same of a counter record
+abbrev pub counter_record_front : ℕ → Trees → List ℕ
+counter_record_front k members =
+    if k == 1 then interface_front members else (
+    if k == 2 then dot3_front members else (
+    if k == 5 then vlan_front members else []))
+
+-- the same number is one format of flow records and another one of counter records
+abbrev pub known_record : RecordKind → ℕ → Trees → List ℕ
+known_record Flow k members = flow_record_front k members
+known_record Counters k members = counter_record_front k members
+known_record Unknown k members = []
+
+-- the line of a record, up to its tail
 abbrev pub record_front : RecordKind → Tree → List ℕ
+record_front kind (known k value tail) = known_record kind k (members_of value)
 record_front kind (other k body) = frame_front (codes "  record ") (format_of k) body
 record_front kind _ = []
 

@@ -6,9 +6,13 @@ ghost use Rattle.wire_spec.specs.Captures.{Entry};
 ghost use Rattle.wire_spec.specs.Shapes.{Tree};
 ghost use Rattle.wire_spec.specs.Whole.{SpellsWhole, FailsWhole};
 ghost use Rattle.datagram_core.specs.Tables.{datagram_read};
+ghost use Rattle.datagram_core.specs.declared.records.RecordKind.TheVariants.{Flow, Counters};
+ghost use Rattle.wire_spec.specs.RecordExamples.{flow_record_trees, counter_record_trees};
+ghost use Rattle.show_lines.specs.Joined.{texts_of};
 ghost use Rattle.show_lines.specs.Lines.{entry_line, fault_line};
-ghost use Rattle.show_lines.specs.Shown.{entry_text, datagram_text};
+ghost use Rattle.show_lines.specs.Shown.{entry_text, datagram_text, record_text};
 ghost use Rattle.show_lines.specs.Worked.{flow_entry, flow_lines, expanded_entry, expanded_lines, cut_entry, cut_lines, tail_entry, tail_lines, other_entry, other_lines};
+ghost use Rattle.show_lines.specs.WorkedRecords.{flow_record_lines, counter_record_lines, switch_entry, switch_lines, gateway_entry, gateway_lines, no_path_entry, no_path_lines, interface_entry, interface_lines};
 
 /// An entry is shown with the line of a fault exactly where its bytes have this fault in the grammar, and else with
 /// the lines of the one datagram that they are.
@@ -30,4 +34,15 @@ pub fn worked_entries()
     ensures cut { entry_text 2 cut_entry ≡ cut_lines }
     ensures tail { entry_text 1 tail_entry ≡ tail_lines }
     ensures other { entry_text 1 other_entry ≡ other_lines }
+{}
+
+/// Worked records: one of each format of the two tables; and entries with a tail and a record outside of the tables, a
+/// BGP route with its path and without one, and the counters of an interface.
+pub fn worked_records()
+    ensures flows { texts_of (record_text Flow) flow_record_trees ≡ flow_record_lines }
+    ensures counters { texts_of (record_text Counters) counter_record_trees ≡ counter_record_lines }
+    ensures switch { entry_text 1 switch_entry ≡ switch_lines }
+    ensures gateway { entry_text 1 gateway_entry ≡ gateway_lines }
+    ensures no_path { entry_text 1 no_path_entry ≡ no_path_lines }
+    ensures interface { entry_text 1 interface_entry ≡ interface_lines }
 {}

@@ -7,8 +7,12 @@ ghost use Rattle.datagram_core.specs.declared.records.RecordKind.{RecordKind};
 ghost use Rattle.sflow_io.specs.Causes.{HasCause};
 ghost use Rattle.text_lines.specs.Pages.{Prints};
 ghost use Rattle.show_lines.specs.Fields.{tail_in};
-ghost use Rattle.show_lines.specs.Shown.{texts_of, record_text, record_front};
+ghost use Rattle.show_lines.specs.Joined.{texts_of};
+ghost use Rattle.show_lines.specs.Shown.{record_text, record_front};
 
+use crate::counters::{put_dot3, put_interface, put_vlan};
+use crate::extended::{put_gateway, put_router, put_switch};
+use crate::headers::{put_ethernet, put_header, put_ipv4, put_ipv6};
 use crate::lines::{put_frame, put_line_end};
 use datagram_core::{Record, Records};
 use sflow_io::{Failed, Sink};
@@ -48,6 +52,16 @@ fn put_record_front<K: Sink>(page: &mut Page, sink: &mut K, this: &Record<'_>) -
     ensures cause { HasCause (K.faults sink.old) (K.faults sink.new) result }
 {
     match this {
+        Record::RawHeader(r) => put_header(page, sink, r),
+        Record::Ethernet(r) => put_ethernet(page, sink, r),
+        Record::Ipv4(r) => put_ipv4(page, sink, r),
+        Record::Ipv6(r) => put_ipv6(page, sink, r),
+        Record::Switch(r) => put_switch(page, sink, r),
+        Record::Router(r) => put_router(page, sink, r),
+        Record::Gateway(r) => put_gateway(page, sink, r),
+        Record::IfCounters(r) => put_interface(page, sink, r),
+        Record::EthernetCounters(r) => put_dot3(page, sink, r),
+        Record::VlanCounters(r) => put_vlan(page, sink, r),
         Record::Other(frame) => put_frame(page, sink, "  record ", frame.format, frame.body),
     }
 }
@@ -57,6 +71,16 @@ fn tail_of<'a>(this: &Record<'a>) -> &'a [u8]
     ensures { result.now ≡ tail_in (record_tree this.now) }
 {
     match this {
+        Record::RawHeader(r) => r.tail,
+        Record::Ethernet(r) => r.tail,
+        Record::Ipv4(r) => r.tail,
+        Record::Ipv6(r) => r.tail,
+        Record::Switch(r) => r.tail,
+        Record::Router(r) => r.tail,
+        Record::Gateway(r) => r.tail,
+        Record::IfCounters(r) => r.tail,
+        Record::EthernetCounters(r) => r.tail,
+        Record::VlanCounters(r) => r.tail,
         Record::Other(_) => &[],
     }
 }

@@ -7,7 +7,8 @@ ghost use Rattle.datagram_core.specs.Tables.{samples_read};
 ghost use Rattle.sflow_io.specs.Causes.{HasCause};
 ghost use Rattle.text_lines.specs.Pages.{Prints};
 ghost use Rattle.show_lines.specs.Fields.{tail_in};
-ghost use Rattle.show_lines.specs.Shown.{texts_of, sample_text, sample_front};
+ghost use Rattle.show_lines.specs.Joined.{texts_of};
+ghost use Rattle.show_lines.specs.Shown.{sample_text, sample_front};
 
 use crate::lines::{put_counters, put_flow, put_frame, put_line_end};
 use crate::record::put_records;

@@ -1,0 +1,9 @@
+use Rattle.data_format.specs.Addresses.{address_of}
+use Rattle.show_lines.specs.FlowLines.{router_front}
+use Rattle.show_lines.proofs.Places.{address_in-tree}
+use Rattle.show_lines.proofs.extended.put_router.Goals as goal
+
+pub returns-clause-prints : goal.returns-clause-prints
+unfolding router_front
+returns-clause-prints g c =
+    rw (address_in-tree (address_of c.args.this.now.nexthop)) c.put_line.ensures.prints
