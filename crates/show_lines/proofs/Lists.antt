@@ -1,9 +1,9 @@
 -- Lists of which the first is put, and then the rest.
 use Rattle.std.proofs.Common.{◌≡◌, ◌≤◌, ℕ, suc, ◌+◌, List, [], ◌∷◌, ◌++◌, codes, decimal, length, drop, drop-cons, Some, slice_get, refl, sym, ap, ◌∙◌, add-one, arith}
 use Rattle.std.proofs.lemmas.Option.{slice_get_within, get_or_from_slice_get}
-use Rattle.rec_extended.specs.declared.segment.Segment.{Segment}
-use Rattle.rec_extended.specs.Paths.{segment_tree, segment_trees}
-use Rattle.rec_extended.specs.WordLists.{word_trees}
+use Rattle.as_paths.specs.declared.segment.Segment.{Segment}
+use Rattle.as_paths.specs.Paths.{segment_tree, segment_trees}
+use Rattle.as_paths.specs.WordLists.{word_trees}
 use Rattle.show_lines.specs.Joined.{texts_of, number_text, list_text, segment_text, path_text}
 
 -- the one at a place, and what is behind it

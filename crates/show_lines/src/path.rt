@@ -1,6 +1,6 @@
 // The text of an AS path.
 ghost use Rattle.std.specs.Prelude.{◌≡◌, ◌++◌, codes};
-ghost use Rattle.rec_extended.specs.Paths.{kind_word, segment_tree, segment_trees};
+ghost use Rattle.as_paths.specs.Paths.{kind_word, segment_tree, segment_trees};
 ghost use Rattle.sflow_io.specs.Causes.{HasCause};
 ghost use Rattle.text_lines.specs.Pages.{Prints};
 ghost use Rattle.show_lines.specs.Joined.{texts_of, segment_name, segment_text, path_text};

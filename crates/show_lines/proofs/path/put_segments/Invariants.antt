@@ -1,6 +1,6 @@
 -- The segments so far were put, and no call has failed.
 use Rattle.std.proofs.Common.{◌≡◌, codes, ◌++◌, length}
-use Rattle.rec_extended.specs.Paths.{segment_tree}
+use Rattle.as_paths.specs.Paths.{segment_tree}
 use Rattle.show_lines.specs.Joined.{segment_text}
 use Rattle.show_lines.proofs.Series.{SoFar}
 use Rattle.show_lines.proofs.path.put_segments.Given as goal
