@@ -1,7 +1,7 @@
 // Parts of lines.
 ghost use Rattle.std.specs.Prelude.{◌++◌, codes, decimal, drop, flat_map};
-ghost use Rattle.sflow_io.specs.Causes.{HasCause};
 ghost use Rattle.rec_extended.specs.WordLists.{word_trees};
+ghost use Rattle.sflow_io.specs.Causes.{HasCause};
 ghost use Rattle.text_lines.specs.Pages.{Prints};
 ghost use Rattle.show_lines.specs.Joined.{texts_of, number_text, list_text};
 

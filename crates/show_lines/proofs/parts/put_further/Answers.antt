@@ -1,4 +1,4 @@
-use Rattle.std.proofs.Common.{◌+◌, drop, refl, ◌∙◌, arith}
+use Rattle.std.proofs.Common.{refl, ◌∙◌, arith}
 use Rattle.show_lines.proofs.Lists.{left_at}
 use Rattle.show_lines.proofs.Series.{one_more, one_fails}
 use Rattle.show_lines.proofs.parts.put_further.Goals as goal
