@@ -1,12 +1,12 @@
 -- The line of a record is that of its value, whose kind is known from its shape.
-use Rattle.std.proofs.Common.{◌≡◌, ℕ, List, codes, refl, sym, ap, subst, ◌∙◌}
+use Rattle.std.proofs.Common.{◌≡◌, ℕ, List, codes, refl, sym, ap, ◌∙◌}
 use Rattle.rec_counters.specs.Contents as counters
 use Rattle.rec_extended.specs.Contents as switches
 use Rattle.rec_extended.specs.RouteContents as routes
 use Rattle.rec_headers.specs.Contents as headers
 use Rattle.wire_spec.specs.Shapes.{empty}
 use Rattle.data_format.specs.Views.{FrameView}
-use Rattle.datagram_core.specs.Records.{IsRecordOf, IsRecordFrame, record_tree, table_of}
+use Rattle.datagram_core.specs.Records.{IsRecordOf, record_tree}
 use Rattle.datagram_core.specs.Tables.{flow_records_read, counter_records_read}
 use Rattle.datagram_core.specs.declared.records.Record.{Record}
 use Rattle.datagram_core.specs.declared.records.Record.TheVariants as records

@@ -1,5 +1,5 @@
 -- A record has the shape that the table of its kind has for its format. So the kind is known from the value.
-use Rattle.std.proofs.Common.{◌≡◌, ℕ, Bool, true, false, cond, eqb, List, Result, Ok, Err, refl, sym, subst}
+use Rattle.std.proofs.Common.{◌≡◌, ℕ, Bool, true, false, cond, eqb, Result, Ok, Err, refl, sym, subst}
 use Rattle.wire_spec.specs.declared.pad.Pad.{Pad}
 use Rattle.wire_spec.specs.declared.pad.Pad.TheVariants as pads
 use Rattle.wire_spec.specs.declared.fault.Fault.{Fault}

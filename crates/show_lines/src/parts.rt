@@ -1,7 +1,7 @@
 // Parts of lines.
 ghost use Rattle.std.specs.Prelude.{◌++◌, codes, decimal, drop, flat_map};
-ghost use Rattle.sflow_io.specs.Causes.{HasCause};
 ghost use Rattle.as_paths.specs.WordLists.{word_trees};
+ghost use Rattle.sflow_io.specs.Causes.{HasCause};
 ghost use Rattle.text_lines.specs.Pages.{Prints};
 ghost use Rattle.show_lines.specs.Joined.{texts_of, number_text, list_text};
 
@@ -32,11 +32,7 @@ pub(crate) fn put_number<K: Sink>(
 }
 
 // Numbers, each behind a space.
-pub(crate) fn put_row<K: Sink>(
-    page: &mut Page,
-    sink: &mut K,
-    numbers: &[u64],
-) -> Result<(), Failed>
+pub(crate) fn put_row<K: Sink>(page: &mut Page, sink: &mut K, numbers: &[u64]) -> Result<(), Failed>
     ensures prints { Prints (K.taken sink.old) (K.taken sink.new) page.old page.new result
         (flat_map (λ n. codes " " ++ decimal n) numbers.now) }
     ensures cause { HasCause (K.faults sink.old) (K.faults sink.new) result }
@@ -67,11 +63,7 @@ pub(crate) fn put_list<K: Sink>(
 }
 
 // Each number behind the first, and a comma before it.
-fn put_further<K: Sink>(
-    page: &mut Page,
-    sink: &mut K,
-    numbers: &Words<'_>,
-) -> Result<(), Failed>
+fn put_further<K: Sink>(page: &mut Page, sink: &mut K, numbers: &Words<'_>) -> Result<(), Failed>
     ensures prints { Prints (K.taken sink.old) (K.taken sink.new) page.old page.new result
         (texts_of (λ n. codes "," ++ number_text n) (word_trees (drop 1 numbers.now))) }
     ensures cause { HasCause (K.faults sink.old) (K.faults sink.new) result }

@@ -30,11 +30,7 @@ pub(crate) fn put_path<K: Sink>(
 }
 
 // Each segment that is left, and a semicolon before it.
-fn put_segments<K: Sink>(
-    page: &mut Page,
-    sink: &mut K,
-    mut rest: AsPath<'_>,
-) -> Result<(), Failed>
+fn put_segments<K: Sink>(page: &mut Page, sink: &mut K, mut rest: AsPath<'_>) -> Result<(), Failed>
     ensures prints { Prints (K.taken sink.old) (K.taken sink.new) page.old page.new result
         (texts_of (λ s. codes ";" ++ segment_text s) (segment_trees rest.entry)) }
     ensures cause { HasCause (K.faults sink.old) (K.faults sink.new) result }

@@ -10,21 +10,27 @@ const FLOW: [u32; 11] = [1, 1, 32, 1, 5, 256, 512, 0, 5, 6, 0];
 
 // An entry with this number that arrived at 1,000 ms, and its lines.
 #[derive(Drop)]
-struct Case<'a> {
-    number: u64,
+pub(crate) struct Case<'a> {
+    pub number: u64,
     // How many samples there are, and what follows.
-    words: &'a [u32],
+    pub words: &'a [&'a [u32]],
     // How many bytes are left out at the end.
-    cut: usize,
-    lines: &'a [&'a str],
+    pub cut: usize,
+    pub lines: &'a [&'a str],
+}
+
+fn push_words(bytes: &mut Vec<u8>, words: &[u32]) -> Result<(), Fail> {
+    for word in words {
+        bytes.extend_from_slice(&word.to_be_bytes())?;
+    }
+    Ok(())
 }
 
 fn bytes_of(alloc: Global, case: &Case<'_>) -> Result<Vec<u8>, Fail> {
     let mut bytes = Vec::new(alloc);
-    for words in [HEAD.as_slice(), case.words] {
-        for word in words.iter() {
-            bytes.extend_from_slice(&word.to_be_bytes())?;
-        }
+    push_words(&mut bytes, &HEAD)?;
+    for words in case.words {
+        push_words(&mut bytes, words)?;
     }
     bytes.truncate(bytes.len().saturating_sub(case.cut));
     Ok(bytes)
@@ -40,7 +46,11 @@ fn text_of(alloc: Global, lines: &[&str]) -> Result<String, Fail> {
 }
 
 // The lines go out whole, and as far as they fit where the sink takes few bytes.
-fn try_case(rt: &impl std::process::Abort, alloc: Global, case: &Case<'_>) -> Result<(), Fail> {
+pub(crate) fn try_case(
+    rt: &impl std::process::Abort,
+    alloc: Global,
+    case: &Case<'_>,
+) -> Result<(), Fail> {
     let bytes = bytes_of(alloc, case)?;
     let text = text_of(alloc, case.lines)?;
     assert!(rt; bytes.len() <= 65_535);
@@ -62,7 +72,7 @@ fn lines_of_entries(rt: HostRuntime) -> Result<(), Fail> {
     let cases = [
         Case {
             number: 1,
-            words: &FLOW,
+            words: &[&FLOW],
             cut: 0,
             lines: &[
                 "entry 1 at 1000 bytes 68",
@@ -72,7 +82,7 @@ fn lines_of_entries(rt: HostRuntime) -> Result<(), Fail> {
         },
         Case {
             number: 1,
-            words: &[1, 3, 44, 1, 0, 16_777_216, 256, 512, 0, 0, 5, 0, 6, 0],
+            words: &[&[1, 3, 44, 1, 0, 16_777_216, 256, 512, 0, 0, 5, 0, 6, 0]],
             cut: 0,
             lines: &[
                 "entry 1 at 1000 bytes 80",
@@ -83,7 +93,7 @@ fn lines_of_entries(rt: HostRuntime) -> Result<(), Fail> {
         // The word of the number of samples isn't all there.
         Case {
             number: 2,
-            words: &[0],
+            words: &[&[0]],
             cut: 1,
             lines: &["entry 2 at 1000 bytes 27", "fault at 24 kind short"],
         },
@@ -91,19 +101,9 @@ fn lines_of_entries(rt: HostRuntime) -> Result<(), Fail> {
         Case {
             number: 18_446_744_073_709_551_615,
             words: &[
-                2,
-                2,
-                28,
-                9,
-                0x0200_0005,
-                1,
-                0x0113_d007,
-                3,
-                0xaabb_cc00,
-                0xdead_beef,
-                0x0113_d007,
-                3,
-                0xaabb_cc00,
+                &[2, 2, 28, 9, 0x0200_0005, 1],
+                &[0x0113_d007, 3, 0xaabb_cc00, 0xdead_beef],
+                &[0x0113_d007, 3, 0xaabb_cc00],
             ],
             cut: 0,
             lines: &[
@@ -117,14 +117,18 @@ fn lines_of_entries(rt: HostRuntime) -> Result<(), Fail> {
         // A sample with two records, one of them with no bytes.
         Case {
             number: 3,
-            words: &[1, 4, 36, 7, 3, 0x0100_0000, 2, 9, 0, 1, 4, 0x0000_000a],
+            words: &[
+                &[1, 4, 36, 7, 3, 0x0100_0000, 2],
+                &[9, 0],
+                &[3, 4, 0x0000_000a],
+            ],
             cut: 0,
             lines: &[
                 "entry 3 at 1000 bytes 72",
                 "datagram agent 10.0.0.1 sub 0 seq 1 uptime 1000 samples 1",
                 " countersx seq 7 source 3:16777216 records 2",
                 "  record 0:9 bytes 0 -",
-                "  record 0:1 bytes 4 0000000a",
+                "  record 0:3 bytes 4 0000000a",
             ],
         },
     ];
@@ -137,12 +141,8 @@ fn lines_of_entries(rt: HostRuntime) -> Result<(), Fail> {
 #[test]
 fn a_write_fails_behind_the_first(rt: HostRuntime) -> Result<(), Fail> {
     let mut bytes = Vec::new(rt.alloc());
-    for word in HEAD.iter() {
-        bytes.extend_from_slice(&word.to_be_bytes())?;
-    }
-    for word in [1u32, 9, 3000] {
-        bytes.extend_from_slice(&word.to_be_bytes())?;
-    }
+    push_words(&mut bytes, &HEAD)?;
+    push_words(&mut bytes, &[1, 9, 3000])?;
     bytes.extend_from_slice(vec![in rt.alloc(); 0xa5; 3000]?.as_slice())?;
     assert!(rt; bytes.len() <= 65_535);
     let fails = Vec::from_slice(rt.alloc(), &[3])?;

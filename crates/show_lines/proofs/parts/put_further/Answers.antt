@@ -1,4 +1,4 @@
-use Rattle.std.proofs.Common.{◌+◌, drop, refl, ◌∙◌, arith}
+use Rattle.std.proofs.Common.{refl, ◌∙◌, arith}
 use Rattle.show_lines.proofs.Lists.{left_at}
 use Rattle.show_lines.proofs.Series.{one_more, one_fails}
 use Rattle.show_lines.proofs.parts.put_further.Goals as goal
@@ -8,15 +8,15 @@ pub loop-place-preserved : goal.loop-place-preserved
 loop-place-preserved g c =
     let before = c.loop-place.invariant in
     elim c.match-get.branch [
-      in-Some+in_ok-put_number w ↦
-        let next = left_at c.args.numbers.now c.loop-place.place _ w.in-Some.ensures.some in
-        let put = w.in_ok-put_number.ensures in
-        record {
-          far = rw (w.page-is, w.sink-is) (one_more _ _ _ _ _ _ _ _ before.far _ _ _ _ _ next refl put.prints);
-          kept = rw w.sink-is (put.cause.kept ∙ before.kept);
-        }
+      | in-Some+in_ok-put_number w ↦
+          let next = left_at c.args.numbers.now c.loop-place.place _ w.in-Some.ensures.some in
+          let put = w.in_ok-put_number.ensures in
+          record {
+            far = rw (w.page-is, w.sink-is) (one_more _ _ _ _ _ _ _ _ before.far _ _ _ _ _ next refl put.prints);
+            kept = rw w.sink-is (put.cause.kept ∙ before.kept);
+          }
       | in_default w ↦
-        absurd (omega (arith, w.in_default.ensures.none, c.len-place-end.ensures, c.loop-place-test.true))
+          absurd (omega (arith, w.in_default.ensures.none, c.len-place-end.ensures, c.loop-place-test.true))
     ]
 
 pub returns-in_err-put_number-clause-prints : goal.returns-in_err-put_number-clause-prints

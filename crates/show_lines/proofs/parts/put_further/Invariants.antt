@@ -1,5 +1,5 @@
 -- The numbers so far were put, and no call has failed.
-use Rattle.std.proofs.Common.{◌≡◌, ◌≤◌, codes, ◌++◌, drop}
+use Rattle.std.proofs.Common.{◌≡◌, codes, ◌++◌, drop}
 use Rattle.wire_spec.specs.Shapes.{Tree}
 use Rattle.show_lines.specs.Joined.{number_text}
 use Rattle.show_lines.proofs.Series.{SoFar}

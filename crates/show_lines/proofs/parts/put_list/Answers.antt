@@ -1,4 +1,3 @@
-use Rattle.std.proofs.Common.{sym, ap}
 use Rattle.text_lines.proofs.PageLaws.{prints_first, prints_second, prints_same}
 use Rattle.show_lines.proofs.Lists.{list_none, list_more}
 use Rattle.show_lines.proofs.parts.put_list.Goals as goal
