@@ -1,5 +1,5 @@
 -- The record that was read from a frame is that of the frame.
-use Rattle.std.proofs.Common.{◌≡◌, ℕ, ◌+◌, ◌<◌, ◌^◌, length, Ok, sym, ap, subst}
+use Rattle.std.proofs.Common.{◌≡◌, ◌+◌, ◌<◌, ◌^◌, length, Ok, sym, ap, subst}
 use Rattle.wire_spec.specs.declared.pad.Pad.TheVariants as pads
 use Rattle.wire_spec.specs.Shapes.{other}
 use Rattle.wire_spec.specs.Reading.{inside_at}

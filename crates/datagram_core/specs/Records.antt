@@ -67,8 +67,8 @@ record_tree (EthernetCounters r) = as_known 2 (counters.ethernet_content r)
 record_tree (VlanCounters r) = as_known 5 (counters.vlan_content r)
 record_tree (Other frame) = other (format_word frame.format) frame.body.now
 
--- The header of a packet stands behind four words, and the tail is the rest of the body; a record whose format isn't
--- read has the whole body.
+-- The header of a packet stands behind four words, the lists of a gateway within the body, and the tail is its rest; a
+-- record whose format isn't read has the whole body.
 abbrev pub HasSlices : List ℕ → Record → Type 0
 HasSlices body (RawHeader r) = IsRange body 16 r.header.now × EndsWith body r.tail.now
 HasSlices body (Ethernet r) = EndsWith body r.tail.now
@@ -76,7 +76,7 @@ HasSlices body (Ipv4 r) = EndsWith body r.tail.now
 HasSlices body (Ipv6 r) = EndsWith body r.tail.now
 HasSlices body (Switch r) = EndsWith body r.tail.now
 HasSlices body (Router r) = EndsWith body r.tail.now
-HasSlices body (Gateway r) = EndsWith body r.tail.now
+HasSlices body (Gateway r) = EndsWith body r.tail.now × routes.HasLists body r
 HasSlices body (IfCounters r) = EndsWith body r.tail.now
 HasSlices body (EthernetCounters r) = EndsWith body r.tail.now
 HasSlices body (VlanCounters r) = EndsWith body r.tail.now

@@ -2,7 +2,9 @@
 use Rattle.std.specs.Prelude.{ℕ, List}
 use Rattle.wire_spec.specs.Shapes.{Tree, none, ◌&◌}
 use Rattle.wire_spec.specs.Heads.{address_tree}
+use Rattle.wire_spec.specs.Spelling.{spell_all}
 use Rattle.data_format.specs.Addresses.{address_of}
+use Rattle.data_format.specs.Ranges.{IsRange}
 use Rattle.data_format.specs.Records.{Content}
 use Rattle.rec_extended.specs.declared.router.RouterRec.{RouterRec}
 use Rattle.rec_extended.specs.declared.gateway.GatewayHead.{GatewayHead}
@@ -46,3 +48,8 @@ gateway_parts h path communities tail = (
 
 abbrev pub gateway_content : GatewayRec → Content
 gateway_content r = gateway_parts (head_of r) (path_of r) (communities_of r) r.tail.now
+
+-- the segments and the communities are ranges of the body
+abbrev pub HasLists : List ℕ → GatewayRec → Type 0
+HasLists body r = ((at : ℕ) × IsRange body at (spell_all (segment_trees (path_of r))))
+    × ((at : ℕ) × IsRange body at (spell_all (word_trees (communities_of r))))

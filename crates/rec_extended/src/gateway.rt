@@ -12,7 +12,7 @@ ghost use Rattle.data_format.specs.Records.{record_reading, record_bytes, IsRead
 ghost use Rattle.data_format.specs.Views.{body_of, frame_view};
 ghost use Rattle.as_paths.specs.Paths.{segment_trees};
 ghost use Rattle.as_paths.specs.WordLists.{word_trees};
-ghost use Rattle.rec_extended.specs.RouteContents.{gateway_content, gateway_parts, path_of, communities_of};
+ghost use Rattle.rec_extended.specs.RouteContents.{gateway_content, gateway_parts, path_of, communities_of, HasLists};
 
 use crate::address_parts::address_parts;
 use crate::{AsPath, Words};
@@ -66,6 +66,7 @@ impl<'a> GatewayRec<'a> {
 
         // The tail is the rest of the body, and the lists are within it.
         ensures tail { IfOk result (λ r. EndsWith frame.entry.body.now r.tail.now) }
+        ensures lists { IfOk result (λ r. HasLists frame.entry.body.now r) }
         ensures path { IfOk result (λ r. length (spell_all (segment_trees (path_of r))) ≤ length frame.entry.body.now) }
         ensures communities { IfOk result (λ r. length (spell_all (word_trees (communities_of r))) ≤ length frame.entry.body.now) }
     {

@@ -1,0 +1,79 @@
+-- Where the lists of a gateway stand in the body that it was read from.
+use Rattle.std.proofs.Common.{◌≡◌, ℕ, List, [], ◌∷◌, ◌++◌, length, Result, Ok, Err, ap, subst, ◌∙◌, append_assoc, inl, inr, arith}
+use Rattle.std.specs.Prelude.{IfOk}
+use Rattle.std.specs.Int.{w32, to_be_bytes}
+use Rattle.wire_spec.specs.declared.pad.Pad.{Pad}
+use Rattle.wire_spec.specs.declared.fault.Fault.{Fault}
+use Rattle.wire_spec.specs.Shapes.{word, array, empty, row, Tree, count_of}
+use Rattle.wire_spec.specs.Spells.{Each, Spells, SpellsRow}
+use Rattle.wire_spec.specs.Spelling.{spell, spell_all}
+use Rattle.wire_spec.specs.Tables.{path_segment, extended_gateway}
+use Rattle.wire_spec.specs.Whole.{SpellsFront}
+use Rattle.data_format.specs.Ranges.{IsRange}
+use Rattle.data_format.specs.Views.{FrameView}
+use Rattle.data_format.proofs.Ranges.{all_ranges}
+use Rattle.as_paths.specs.declared.segment.Segment.{Segment}
+use Rattle.as_paths.specs.Paths.{kind_word, segment_tree, segment_trees}
+use Rattle.as_paths.specs.WordLists.{word_trees}
+use Rattle.rec_extended.specs.declared.gateway.GatewayRec.{GatewayRec}
+use Rattle.rec_extended.specs.RouteContents.{gateway_content, path_of, communities_of, HasLists}
+
+-- ---- words have no padding, so their spelling is the one
+
+words_alike : (p : Pad) (ns a : List ℕ) → Each (Spells p word) (word_trees ns) a → a ≡ spell_all (word_trees ns)
+words_alike p [] a e = e
+words_alike p (n ∷ ns) a (x, y, one, more, parts) =
+    parts ∙ ap (λ (t : List ℕ). t ++ y) one.1
+    ∙ ap (λ (t : List ℕ). to_be_bytes w32 n ++ t) (words_alike p ns y more)
+
+numbers_alike : (p : Pad) (ns a : List ℕ) → Spells p (array word) (Tree.array (word_trees ns)) a
+    → a ≡ to_be_bytes w32 (count_of (word_trees ns)) ++ spell_all (word_trees ns)
+numbers_alike p ns a (x, y, one, more, parts) =
+    parts ∙ ap (λ (t : List ℕ). t ++ y) one.1
+    ∙ ap (λ (t : List ℕ). to_be_bytes w32 (count_of (word_trees ns)) ++ t) (words_alike p ns y more)
+
+segment_alike : (p : Pad) (s : Segment) (a : List ℕ) → Spells p path_segment (segment_tree s) a
+    → a ≡ spell (segment_tree s)
+segment_alike p s a (x, y, kind, numbers, parts) =
+    parts ∙ ap (λ (t : List ℕ). t ++ y) kind.1
+    ∙ ap (λ (t : List ℕ). to_be_bytes w32 (kind_word s.ordered) ++ t) (of_row numbers)
+  where
+    of_row : SpellsRow p (row 1 (array word) (row 2 (array word) empty)) (kind_word s.ordered) (Tree.array (word_trees s.numbers)) y
+        → y ≡ to_be_bytes w32 (count_of (word_trees s.numbers)) ++ spell_all (word_trees s.numbers)
+    of_row (inl set) = numbers_alike p s.numbers y set.1
+    of_row (inr (no_set, inl sequence)) = numbers_alike p s.numbers y sequence.1
+    of_row (inr (no_set, inr neither)) = absurd neither.1
+
+segments_alike : (p : Pad) (xs : List Segment) (a : List ℕ) → Each (Spells p path_segment) (segment_trees xs) a
+    → a ≡ spell_all (segment_trees xs)
+segments_alike p [] a e = e
+segments_alike p (s ∷ xs) a (x, y, one, more, parts) =
+    parts ∙ ap (λ (t : List ℕ). t ++ y) (segment_alike p s x one)
+    ∙ ap (λ (t : List ℕ). spell (segment_tree s) ++ t) (segments_alike p xs y more)
+
+-- ---- where they stand
+
+part_is_somewhere : (whole front part back named : List ℕ) → whole ≡ front ++ (part ++ back) → part ≡ named
+    → (at : ℕ) × IsRange whole at named
+part_is_somewhere whole front part back named parts same =
+    let f : FrameView = record { format = 0; body = part; at = length front } in
+    let P : List ℕ → Type 0 = λ t. (at : ℕ) × IsRange whole at t in
+    subst P same (length front, (all_ranges whole (f ∷ []) ((front, back, parts, omega arith), tt)).0)
+
+lists_stand : (p : Pad) (body : List ℕ) (r : GatewayRec) → SpellsFront p extended_gateway body (gateway_content r)
+    → HasLists body r
+lists_stand p body r (fields, tail, (a, r1, address, (w1, r2, one, (w2, r3, two, (w3, r4, three, (l, r5, (n, path, count, segments, f1), (m, r6, (k, numbers, how_many, words, f2), last, e6), e5), e4), e3), e2), e1), same, e0) =
+    let to_path : body ≡ (a ++ (w1 ++ (w2 ++ (w3 ++ n)))) ++ (path ++ (r5 ++ tail)) =
+    rw (e0, e1, e2, e3, e4, e5, f1) (simp append_assoc) in
+    let to_numbers : body ≡ (a ++ (w1 ++ (w2 ++ (w3 ++ (l ++ k))))) ++ (numbers ++ (r6 ++ tail)) =
+    rw (e0, e1, e2, e3, e4, e5, e6, f2) (simp append_assoc) in (
+      part_is_somewhere body (a ++ (w1 ++ (w2 ++ (w3 ++ n)))) path (r5 ++ tail) (spell_all (segment_trees (path_of r)))
+          to_path (segments_alike p (path_of r) path segments),
+      part_is_somewhere body (a ++ (w1 ++ (w2 ++ (w3 ++ (l ++ k))))) numbers (r6 ++ tail)
+          (spell_all (word_trees (communities_of r))) to_numbers (words_alike p (communities_of r) numbers words),
+    )
+
+pub given_lists : (p : Pad) (body : List ℕ) (r : Result GatewayRec Fault)
+    → IfOk r (λ x. SpellsFront p extended_gateway body (gateway_content x)) → IfOk r (λ x. HasLists body x)
+given_lists p body (Ok x) h = lists_stand p body x h
+given_lists p body (Err f) h = tt
