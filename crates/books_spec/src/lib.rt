@@ -1,0 +1,9 @@
+//! What the books of a collector show of a stream or a source over the boots of its stream, as definitions in
+//! `specs`, and their laws.
+//!
+//! The functions have nothing to do: each stands for what its contract states of the definitions.
+//! Every list in a contract has the latest first.
+#![tactic(auto)]
+
+pub mod laws;
+pub mod rows;

@@ -1,0 +1,9 @@
+pub mod Tallies
+pub mod Shown
+pub mod Sides
+pub mod RingBits
+pub mod Recent
+pub mod Pending
+pub mod Kept
+pub mod Standing
+pub mod Figures

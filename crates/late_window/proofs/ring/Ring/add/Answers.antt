@@ -1,0 +1,7 @@
+use Rattle.std.proofs.Common.{rules}
+use Rattle.late_window.proofs.RingBits.{below-added}
+use Rattle.late_window.proofs.ring.Ring.add.Goals as goal
+
+pub returns : goal.returns
+returns c = λ k within. below-added c.args.self.now.words c.args.self.now.head c.args.back c.slot-slot.result k
+    (search rules) c.args.self.now.in_ring c.requires within c.slot-slot.ensures.value

@@ -1,0 +1,17 @@
+//! Windows over 32-bit sequence numbers: which number a mark stands for, whether it was counted, and how many
+//! numbers were received, may still come, or are lost.
+//!
+//! A mark is the sequence word of a datagram or a sample (sFlow Version 5, section 5). A window extends it to
+//! a number that doesn't wrap, as RFC 3550, appendix A.1, extends the sequence numbers of packets.
+#![tactic(auto)]
+
+mod entered;
+mod ring;
+mod side;
+mod window;
+
+pub use entered::{Entered, Place};
+pub use window::Window;
+
+#[cfg(test)]
+mod tests;
