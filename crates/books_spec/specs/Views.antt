@@ -84,10 +84,10 @@ last_value mark value width ([] ∷ closed) = last_value mark value width closed
 last_value mark value width ((x ∷ more) ∷ closed) =
     value_at_greatest (first_values mark value width (x ∷ more))
 
--- the view of a stream, or of a source of counters samples
-abbrev pub plain_view : {X : Type 0} → (X → ℕ) → ℕ → List (List X) → View
-plain_view mark width boots =
-    record { figures = figures_over width (marks_in mark boots); pool = 0; drops = 0; rate = 0 }
+-- the view of the marks of a stream, or of a source of counters samples
+abbrev pub plain_view : ℕ → List (List ℕ) → View
+plain_view width boots =
+    record { figures = figures_over width boots; pool = 0; drops = 0; rate = 0 }
 
 -- the view of a source of flow samples
 abbrev pub flow_view : {X : Type 0} → (X → ℕ) → (X → ℕ) → (X → ℕ) → (X → ℕ) → ℕ → List (List X) → View
