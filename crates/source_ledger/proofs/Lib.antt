@@ -1,0 +1,4 @@
+pub mod Trims
+pub mod Turns
+pub mod Values
+pub mod FlowSteps

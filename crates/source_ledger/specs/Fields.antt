@@ -1,0 +1,39 @@
+-- The fields of the ledgers.
+use Rattle.std.specs.Prelude.{◌≡◌, ◌+◌, ◌*◌, ◌^◌, ◌≤◌}
+use Rattle.source_ledger.specs.Marks.{MarksState}
+use Rattle.source_ledger.specs.Flows.{FlowState}
+use Rattle.source_ledger.specs.declared.marks.MarkLedger.TheInside as marks
+use Rattle.source_ledger.specs.declared.flow.FlowLedger.TheInside as flow
+
+abbrev pub marks_state : marks.Inside → MarksState
+marks_state l = record {
+  width = l.width;
+  boot = l.boot;
+  entered = l.entered;
+  issued = l.issued;
+  received = l.received;
+  lost = l.lost;
+  repeated = l.repeated;
+  late = l.late;
+  window = l.window;
+}
+
+-- what each ledger of marks keeps
+pub record IsMarkLedger (l : marks.Inside) : Type 0 where
+  pub width_from : 1 ≤ l.width
+  pub width_to : l.width ≤ 1024
+  pub width_same : l.window.width ≡ l.width
+  pub few : l.entered ≤ 2 ^ 62
+  pub issued_few : l.issued + 2 ^ 32 * l.window.entered ≤ 2 ^ 32 * l.entered
+  pub received_few : l.received + l.window.entered ≤ l.entered
+  pub conserved : l.issued ≡ l.received + l.lost
+  pub answers_few : l.repeated + l.late ≤ l.entered
+
+abbrev pub flow_state : flow.Inside → FlowState
+flow_state l = record { marks = l.marks; pool = l.pool; drops = l.drops; rate = l.rate }
+
+-- what each ledger of flow samples keeps
+pub record IsFlowLedger (l : flow.Inside) : Type 0 where
+  pub few : l.marks.entered ≤ 2 ^ 62
+  pub pool_few : l.pool.total ≤ 2 ^ 32 * l.marks.entered
+  pub drops_few : l.drops.total ≤ 2 ^ 32 * l.marks.entered
