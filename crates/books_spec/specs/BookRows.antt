@@ -1,9 +1,9 @@
 -- Short forms in which the worked rows of whole books are written.
 use Rattle.std.specs.Prelude.{ℕ, List, [], ◌∷◌, None}
 use Rattle.wire_spec.specs.Heads.{ipv4}
-use Rattle.books_spec.specs.Views.{Figures, View}
-use Rattle.books_spec.specs.Items.{SourceId, Reading, Sample, Datagram, Item, Got, Stream, Limits}
-use Rattle.books_spec.specs.Books.{StreamBooks, SourceBooks, Totals, Books, books, stream_books, source_books, Taken, taken}
+use Rattle.books_spec.specs.Views.{Figures}
+use Rattle.books_spec.specs.Items.{SourceId, Reading, Sample, Item, Got, Stream, Limits}
+use Rattle.books_spec.specs.Books.{StreamBooks, SourceBooks, Totals}
 
 -- so many streams, else the limits that are usual
 abbrev pub limits_of : ℕ → Limits

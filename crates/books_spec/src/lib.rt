@@ -5,6 +5,7 @@
 //! Every list in a contract has the latest first, unless it says otherwise.
 #![tactic(auto)]
 
+pub mod book_laws;
 pub mod book_rows;
 pub mod laws;
 pub mod rows;
