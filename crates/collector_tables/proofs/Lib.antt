@@ -1,0 +1,3 @@
+pub mod Tables
+pub mod KeyTests
+pub mod Places
