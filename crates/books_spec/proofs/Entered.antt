@@ -141,7 +141,8 @@ boots-step l id (current ∷ closed) d = go (boot_place stamp_of l.boot_slack l.
         omega (arith, here, new)
     go Stale = omega arith
 
-own-none : (stream : Stream) (items : List Item) → among same_stream (streams_of items) stream ≡ false
+-- a stream of which nothing came has no datagrams
+pub own-none : (stream : Stream) (items : List Item) → among same_stream (streams_of items) stream ≡ false
     → own stream items ≡ []
 own-none stream [] none = refl
 own-none stream (Malformed f ∷ before) none = own-none stream before none

@@ -1,5 +1,5 @@
 -- The value at a place of a table.
-use Rattle.std.proofs.Common.{◌≡◌, ℕ, zero, suc, Option, Some, None, List, [], ◌∷◌, map, refl, ap}
+use Rattle.std.proofs.Common.{◌≡◌, ℕ, zero, suc, Some, List, [], ◌∷◌, map, ap}
 use Rattle.std.specs.Prelude.{slice_get}
 
 -- the value at a place is that of the entry there

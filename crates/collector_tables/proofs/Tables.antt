@@ -1,10 +1,10 @@
 -- One more entry of a table, and another value at a place.
-use Rattle.std.proofs.Common.{◌≡◌, ℕ, zero, suc, Bool, true, false, ◌||◌, Option, Some, None, List, [], ◌∷◌, ◌++◌, map, refl, sym, ap, subst, ◌∙◌, true≢false}
+use Rattle.std.proofs.Common.{◌≡◌, ℕ, zero, suc, Bool, true, false, ◌||◌, Option, Some, None, List, [], ◌∷◌, ◌++◌, refl, sym, ap, subst, ◌∙◌, true≢false}
 use Rattle.std.specs.Prelude.{slice_get}
 use Rattle.indexmap.specs.IndexMap.{set_value_at}
 use Rattle.books_spec.specs.Listing.{among, AreDistinct}
 use Rattle.books_spec.proofs.Listings.{IsSame, symmetric}
-use Rattle.collector_tables.specs.Tables.{keys_in, Each, Holds}
+use Rattle.collector_tables.specs.Tables.{keys_in, Each}
 
 or-parts : (a b : Bool) → (a || b) ≡ false → (a ≡ false) × (b ≡ false)
 or-parts true b h = absurd (true≢false h)

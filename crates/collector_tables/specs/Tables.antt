@@ -1,5 +1,5 @@
 -- The entries of a table, in the order of their places, and what they stand for.
-use Rattle.std.specs.Prelude.{◌≡◌, ℕ, List, [], ◌∷◌, map}
+use Rattle.std.specs.Prelude.{◌≡◌, List, [], ◌∷◌, map}
 
 -- the keys of the entries, as the definitions have them
 abbrev pub keys_in : {K V S : Type 0} → (K → S) → List (K × V) → List S
