@@ -12,7 +12,7 @@ use wire_spec::{Fault, FaultKind};
 use xdr_words::{Cursor, Out, OutFull};
 
 /// The address of an agent (sFlow Version 5, section 5).
-#[derive(Clone, Copy, Debug, PartialEq, Eq)]
+#[derive(Clone, Copy, Debug, PartialEq, Eq, Hash)]
 pub enum Address {
     /// No address is given.
     Unknown,

@@ -2,7 +2,7 @@ ghost use Rattle.std.specs.Prelude.{◌≡◌, IfNone, IfSome};
 ghost use Rattle.data_format.specs.Compact.{source_word, source_of, IsCompactSource};
 
 /// What an agent takes samples of (sFlow Version 5, section 5).
-#[derive(Clone, Copy, Debug, PartialEq, Eq)]
+#[derive(Clone, Copy, Debug, PartialEq, Eq, Hash)]
 pub struct SourceId {
     /// What kind of source it is: 0 an interface (ifIndex), 1 a VLAN (smonVlanDataSource), 2 a physical entity
     /// (entPhysicalEntry). Others are accepted.

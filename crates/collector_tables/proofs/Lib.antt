@@ -1,0 +1,4 @@
+pub mod Tables
+pub mod KeyTests
+pub mod Places
+pub mod StreamSteps

@@ -1,0 +1,18 @@
+-- The value at a place of a table.
+use Rattle.std.proofs.Common.{◌≡◌, ℕ, zero, suc, Some, List, [], ◌∷◌, map, ap}
+use Rattle.std.specs.Prelude.{slice_get}
+
+-- the value at a place is that of the entry there
+pub same-value : {K V : Type 0} (entries : List (K × V)) (place : ℕ) (k : K) (v w : V)
+    → slice_get entries place ≡ Some (k, v) → slice_get (map (λ (e : K × V). e.1) entries) place ≡ Some w → w ≡ v
+same-value [] place k v w at value = cc
+same-value (e ∷ more) zero k v w at value = cc
+same-value (e ∷ more) (suc n) k v w at value = same-value more n k v w at value
+
+-- the entry at the place of a value
+pub entry-of : {K V : Type 0} (entries : List (K × V)) (place : ℕ) (w : V)
+    → slice_get (map (λ (e : K × V). e.1) entries) place ≡ Some w
+    → (k : K) × (slice_get entries place ≡ Some (k, w))
+entry-of [] place w value = absurd (cc)
+entry-of (e ∷ more) zero w value = (e.0, let q : e.1 ≡ w = cc in ap (λ v. Some (e.0, v)) q)
+entry-of (e ∷ more) (suc n) w value = entry-of more n w value

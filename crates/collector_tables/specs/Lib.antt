@@ -1,0 +1,4 @@
+pub mod Tables
+pub mod Keys
+pub mod Takes
+pub mod Listed

@@ -1,0 +1,4 @@
+pub mod Taken
+pub mod Streams
+pub mod Readings
+pub mod Sources

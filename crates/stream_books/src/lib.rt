@@ -1,0 +1,19 @@
+//! What a collector keeps of one stream and of one source: of a stream its boots, told apart by arrival and uptime,
+//! and its datagram numbers; of a source its sample numbers, and of a source of flow samples the pool, the drops and
+//! the rate (sFlow Version 5, section 5).
+#![tactic(auto)]
+
+mod place;
+mod reading;
+mod source;
+mod stream;
+mod taken;
+
+pub use reading::SampleReading;
+pub use source::SourceRecord;
+pub use source_ledger::LedgerView;
+pub use stream::StreamRecord;
+pub use taken::Taken;
+
+#[cfg(test)]
+mod tests;

@@ -1,0 +1,39 @@
+ghost use Rattle.std.specs.Prelude.{◌≡◌, ◌^◌, ◌≤◌, pos, ◌+ℤ◌, ◌-ℤ◌, ◌≤ℤ◌};
+ghost use Rattle.count_spec.specs.Boots.{is_near_multiple, place_at};
+ghost use Rattle.stream_books.specs.Taken.{boot_place_of};
+
+/// Where a datagram belongs.
+#[derive(Debug, Clone, Copy, PartialEq, Eq)]
+pub enum BootPlace {
+    /// In the current boot.
+    Current,
+    /// In the next boot, which it begins.
+    Next,
+    /// In an earlier boot, so in none.
+    Stale,
+}
+
+// Whether the difference of two boot marks is at most the slack away from a multiple of 2^32, in ms.
+fn is_near_multiple_of_wrap(slack: u32, difference: i128) -> bool
+    requires from { pos 0 ≤ℤ (difference +ℤ pos (2 ^ 65)) }
+    requires to { difference ≤ℤ pos (2 ^ 65) }
+    ensures { result ≡ is_near_multiple slack difference }
+{
+    let above = difference.rem_euclid(4294967296);
+    above <= slack as i128 || 4294967296 - above <= slack as i128
+}
+
+/// The place of a datagram whose boot mark less that of the newest datagram of the current boot is this, in ms.
+pub fn place_of(slack: u32, difference: i128) -> BootPlace
+    requires from { pos 0 ≤ℤ (difference +ℤ pos (2 ^ 65)) }
+    requires to { difference ≤ℤ pos (2 ^ 65) }
+    ensures { boot_place_of result ≡ place_at slack difference }
+{
+    if is_near_multiple_of_wrap(slack, difference) {
+        BootPlace::Current
+    } else if difference > 0 {
+        BootPlace::Next
+    } else {
+        BootPlace::Stale
+    }
+}

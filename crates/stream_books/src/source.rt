@@ -1,0 +1,89 @@
+ghost use Rattle.std.specs.Prelude.{◌≡◌, ℕ, ◌+◌, ◌^◌, ◌<◌, ◌≤◌, true, false, List, [], ◌∷◌, length};
+ghost use Rattle.books_spec.specs.Items.{Reading};
+ghost use Rattle.books_spec.specs.Books.{readings_view};
+ghost use Rattle.source_ledger.specs.Views.{view_of};
+ghost use Rattle.stream_books.specs.Readings.{reading_in};
+ghost use Rattle.stream_books.specs.Sources.{StandsFor, is_flow, width_of, boot_of, entered_count};
+
+use crate::SampleReading;
+use source_ledger::{CounterLedger, FlowLedger, LedgerView};
+
+/// What a collector keeps of one source.
+#[derive(Debug, Drop)]
+pub enum SourceRecord {
+    /// Of a source of flow samples.
+    Flow(FlowLedger),
+    /// Of a source of counters samples.
+    Counters(CounterLedger),
+}
+
+impl SourceRecord {
+    /// Nothing came yet from a source of flow samples. The width of its windows is from 1 to 1,024.
+    pub fn open_flow(width: u32) -> SourceRecord
+        requires width_from { 1 ≤ width }
+        requires width_to { width ≤ 1024 }
+        ensures stands { StandsFor result [] }
+        ensures kind { is_flow result ≡ true }
+        ensures width { width_of result ≡ width }
+        ensures boot { boot_of result ≡ 0 }
+        ensures entered { entered_count result ≡ 0 }
+    {
+        SourceRecord::Flow(FlowLedger::open(width))
+    }
+
+    /// Nothing came yet from a source of counters samples. The width of its windows is from 1 to 1,024.
+    pub fn open_counters(width: u32) -> SourceRecord
+        requires width_from { 1 ≤ width }
+        requires width_to { width ≤ 1024 }
+        ensures stands { StandsFor result [] }
+        ensures kind { is_flow result ≡ false }
+        ensures width { width_of result ≡ width }
+        ensures boot { boot_of result ≡ 0 }
+        ensures entered { entered_count result ≡ 0 }
+    {
+        SourceRecord::Counters(CounterLedger::open(width))
+    }
+
+    /// Enters what a sample of this boot shows; a boot later than that of the last one closes it. Fewer than 2^62
+    /// samples were entered before.
+    pub fn enter(&mut self, boot: u64, reading: SampleReading)
+        requires boot_from { boot_of self.old ≤ boot }
+        requires boot_counts { 1 ≤ boot }
+        requires few { entered_count self.old < 2 ^ 62 }
+        ensures stands { (r : Reading) (current : List Reading) (closed : List (List Reading))
+            → r ≡ reading_in reading → length closed + 1 ≡ boot
+            → StandsFor self.old (current ∷ closed) → StandsFor self.new ((r ∷ current) ∷ closed) }
+        ensures kind { is_flow self.new ≡ is_flow self.old }
+        ensures width { width_of self.new ≡ width_of self.old }
+        ensures boot { boot_of self.new ≡ boot }
+        ensures entered { entered_count self.new ≡ entered_count self.old + 1 }
+    {
+        match self {
+            SourceRecord::Flow(ledger) => {
+                ledger.enter(
+                    boot,
+                    reading.sequence,
+                    reading.pool,
+                    reading.drops,
+                    reading.rate,
+                );
+            }
+            SourceRecord::Counters(ledger) => {
+                ledger.enter(boot, reading.sequence);
+            }
+        }
+    }
+
+    /// Sums over all boots up to this one, which is that of the last sample or a later one; a later one closes it.
+    pub fn view(&self, boot: u64) -> LedgerView
+        requires { boot_of self.now ≤ boot }
+        ensures view { (boots : List (List Reading)) → length boots ≡ boot → StandsFor self.now boots
+            → view_of result ≡ readings_view (is_flow self.now) (width_of self.now) boots }
+        ensures conserved { result.issued ≡ result.received + result.pending + result.lost }
+    {
+        match self {
+            SourceRecord::Flow(ledger) => ledger.view(boot),
+            SourceRecord::Counters(ledger) => ledger.view(boot),
+        }
+    }
+}
