@@ -3,4 +3,5 @@
 #![tactic(auto)]
 
 mod keys;
+mod sources;
 mod streams;
