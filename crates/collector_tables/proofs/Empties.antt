@@ -1,13 +1,11 @@
 -- What stands for nothing stands for boots in which nothing came.
 use Rattle.std.proofs.Common.{◌≡◌, ℕ, Bool, true, false, List, [], ◌∷◌, map, refl, sym, ap, subst, ◌∙◌, true≢false}
-use Rattle.count_spec.specs.Rise.{NumberedValue}
 use Rattle.books_spec.specs.Views.{last_value}
 use Rattle.books_spec.specs.Items.{Reading}
 use Rattle.books_spec.specs.Books.{mark_in}
 use Rattle.source_ledger.specs.Boots.{entered_boots}
 use Rattle.source_ledger.specs.Marks as marks
-use Rattle.source_ledger.specs.Flows.{FlowEntry, FlowState, mark_of, pool_of, drops_of, rate_of}
-use Rattle.source_ledger.specs.Flows as flows
+use Rattle.source_ledger.specs.Flows.{FlowEntry, mark_of, pool_of, drops_of, rate_of}
 use Rattle.source_ledger.specs.Rises.{ShowsRise}
 use Rattle.stream_books.specs.Sources.{StandsFor, entry_of}
 use Rattle.stream_books.specs.declared.source.SourceRecord.{SourceRecord}

@@ -1,5 +1,5 @@
 -- One more reading: what stands for the readings of the other sources goes on.
-use Rattle.std.proofs.Common.{◌≡◌, ℕ, zero, suc, ◌+◌, ◌<◌, ◌≤◌, Bool, true, false, cond, ◌||◌, Option, Some, None, List, [], ◌∷◌, ◌++◌, length, map, add-zero, refl, sym, ap, subst, ◌∙◌, true≢false}
+use Rattle.std.proofs.Common.{◌≡◌, ℕ, zero, suc, ◌+◌, ◌<◌, ◌≤◌, Bool, true, false, cond, ◌||◌, Option, Some, None, List, [], ◌∷◌, ◌++◌, length, add-zero, refl, sym, ap, subst, ◌∙◌, true≢false}
 use Rattle.std.specs.Prelude.{slice_get}
 use Rattle.indexmap.specs.IndexMap.{set_value_at}
 use Rattle.books_spec.specs.Items.{Reading, Source}
@@ -10,9 +10,9 @@ use Rattle.stream_books.specs.Sources.{StandsFor, is_flow, width_of}
 use Rattle.stream_books.specs.declared.source.SourceRecord.{SourceRecord}
 use Rattle.collector_tables.specs.declared.keys.SourceKey.{SourceKey}
 use Rattle.collector_tables.specs.Keys.{source_in}
-use Rattle.collector_tables.specs.Tables.{keys_in, Each, Holds}
+use Rattle.collector_tables.specs.Tables.{keys_in}
 use Rattle.collector_tables.specs.Enters.{Enters}
-use Rattle.collector_tables.specs.Sources.{AreEmpty, with_reading, after_reading, SourceStands, SourcesStand}
+use Rattle.collector_tables.specs.Sources.{with_reading, after_reading, SourceStands, SourcesStand}
 use Rattle.collector_tables.proofs.Tables.{each-at, each-set, each-others, each-push, keys-set, keys-push}
 
 among-at : (entries : List (SourceKey × SourceRecord)) (place : ℕ) (k : SourceKey) (v : SourceRecord)

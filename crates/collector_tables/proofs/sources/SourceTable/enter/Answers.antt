@@ -1,5 +1,4 @@
-use Rattle.std.proofs.Common.{◌≡◌, ◌∙◌, ℕ, ◌≤◌, ◌<◌, false, List, ◌∷◌, length, refl, subst, sym, ap, rules}
-use Rattle.books_spec.specs.Items.{Reading, Source}
+use Rattle.std.proofs.Common.{◌≡◌, ◌∙◌, ◌≤◌, ◌<◌, false, List, ◌∷◌, length, refl, subst, sym, ap, rules}
 use Rattle.books_spec.specs.Listing.{same_source, among}
 use Rattle.stream_books.specs.Readings.{reading_in}
 use Rattle.stream_books.specs.declared.source.SourceRecord.{SourceRecord}
