@@ -1,6 +1,6 @@
 -- Keys are compared as streams and sources are.
 use Rattle.std.proofs.Common.{◌≡◌, ℕ, Bool, true, false, ◌||◌, Option, Some, None, List, [], ◌∷◌, length, get_or, refl, sym, ap, ◌∙◌, ◌<◌, zero, suc, true≢false, arith}
-use Rattle.std.specs.Prelude.{slice_get, position}
+use Rattle.std.specs.Prelude.{slice_get, position, ◌&&◌, ◌==◌}
 use Rattle.std.specs.List.{list_any}
 use Rattle.std.specs.Map.{keys_of}
 use Rattle.std.specs.Option.{is_some}
@@ -9,10 +9,13 @@ use Rattle.indexmap.specs.IndexMap.{IndexMap, get}
 use Rattle.std.proofs.lemmas.List.Quantifiers.{position-Some}
 use Rattle.data_format.specs.declared.address.Address.{Address}
 use Rattle.data_format.specs.declared.address.Address.TheVariants.{Unknown, V4, V6}
-use Rattle.books_spec.specs.Listing.{same_stream, among}
+use Rattle.data_format.specs.declared.source.SourceId.{SourceId}
+use Rattle.books_spec.specs.Listing.{same_stream, same_source, among}
 use Rattle.collector_tables.specs.declared.keys.StreamKey.{StreamKey}
 use Rattle.collector_tables.specs.contracts.keys.StreamKeyPartialEq.TheImpl as stream_eq
-use Rattle.collector_tables.specs.Keys.{stream_in}
+use Rattle.collector_tables.specs.declared.keys.SourceKey.{SourceKey}
+use Rattle.collector_tables.specs.contracts.keys.SourceKeyPartialEq.TheImpl as source_eq
+use Rattle.collector_tables.specs.Keys.{stream_in, source_in}
 use Rattle.collector_tables.specs.Tables.{keys_in}
 
 key-eq : (x y : Address) (m n : ℕ)
@@ -68,4 +71,24 @@ pub absent-stream : {V R : Type 0} (m : IndexMap StreamKey V R) (k : StreamKey)
 absent-stream m k none = nothing (get (stream_eq.eq-value).it m k)
     (is_some-lookup ((stream_eq.eq-value).it k) m.entries
     ∙ any-among (stream_eq.eq-value).it stream_in same_stream stream-eq k m.entries
+    ∙ none)
+
+source-parts : (s t : StreamKey) (p q : Bool) (u v : SourceId)
+    → (source_eq.eq-value).it (record { stream = s; flow = p; source = u }) (record { stream = t; flow = q; source = v })
+    ≡ same_source (source_in (record { stream = s; flow = p; source = u }))
+    (source_in (record { stream = t; flow = q; source = v }))
+source-parts s t true true u v = ap (λ x. x && ((u.class == v.class) && (u.index == v.index))) (stream-eq s t)
+source-parts s t true false u v = ap (λ x. x && false) (stream-eq s t)
+source-parts s t false true u v = ap (λ x. x && false) (stream-eq s t)
+source-parts s t false false u v = ap (λ x. x && ((u.class == v.class) && (u.index == v.index))) (stream-eq s t)
+
+pub source-eq : (a b : SourceKey) → (source_eq.eq-value).it a b ≡ same_source (source_in a) (source_in b)
+source-eq a b = source-parts a.stream b.stream a.flow b.flow a.source b.source
+
+-- a source that isn't among those of a table has no entry there
+pub absent-source : {V R : Type 0} (m : IndexMap SourceKey V R) (k : SourceKey)
+    → among same_source (keys_in source_in m.entries) (source_in k) ≡ false → get (source_eq.eq-value).it m k ≡ None
+absent-source m k none = nothing (get (source_eq.eq-value).it m k)
+    (is_some-lookup ((source_eq.eq-value).it k) m.entries
+    ∙ any-among (source_eq.eq-value).it source_in same_source source-eq k m.entries
     ∙ none)

@@ -2,3 +2,5 @@ pub mod Tables
 pub mod KeyTests
 pub mod Places
 pub mod StreamSteps
+pub mod SourceSteps
+pub mod Empties

@@ -16,3 +16,12 @@ pub entry-of : {K V : Type 0} (entries : List (K × V)) (place : ℕ) (w : V)
 entry-of [] place w value = absurd (cc)
 entry-of (e ∷ more) zero w value = (e.0, let q : e.1 ≡ w = cc in ap (λ v. Some (e.0, v)) q)
 entry-of (e ∷ more) (suc n) w value = entry-of more n w value
+
+-- one place has one key
+pub same-key : {K V : Type 0} (entries : List (K × V)) (place : ℕ) (k x : K) (v w : V)
+    → slice_get entries place ≡ Some (k, v) → slice_get entries place ≡ Some (x, w) → k ≡ x
+same-key {K} {V} entries place k x v w at other =
+    let one : K × V = (k, v) in
+    let two : K × V = (x, w) in
+    let same : one ≡ two = cc in
+    ap (λ (p : K × V). p.0) same

@@ -1,6 +1,11 @@
-//! A collector of datagrams: what it shows of each stream and of each source, in tables whose room is taken at the
-//! opening (sFlow Version 5, section 5).
+//! The tables of a collector: the streams and the sources that are listed, in order of first arrival, each with what
+//! is kept of it, in room that is taken at the opening (sFlow Version 5, section 5).
 #![tactic(auto)]
 
 mod keys;
+mod sources;
 mod streams;
+
+pub use keys::{SourceKey, StreamKey};
+pub use sources::SourceTable;
+pub use streams::StreamTable;

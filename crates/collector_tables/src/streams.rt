@@ -7,9 +7,9 @@ ghost use Rattle.stream_books.specs.Streams.{StreamState, StandsFor, IsAt};
 ghost use Rattle.collector_tables.specs.declared.keys.StreamKey.{StreamKey};
 ghost use Rattle.stream_books.specs.Taken.{taken_in_books};
 ghost use Rattle.collector_tables.specs.Listed.{StreamsStand};
-ghost use Rattle.collector_tables.specs.Takes.{Takes};
+ghost use Rattle.collector_tables.specs.Takes.{Takes, HasTaken};
 ghost use Rattle.collector_tables.specs.Keys.{stream_in};
-ghost use Rattle.collector_tables.specs.Tables.{keys_in};
+ghost use Rattle.collector_tables.specs.Tables.{keys_in, Each};
 
 use crate::keys::StreamKey;
 use indexmap::IndexMap;
@@ -109,6 +109,8 @@ impl StreamTable {
             → l.datagram_width ≡ width → l.boot_slack ≡ slack → stream_in key ≡ stream_of d
             → IsAt d arrival uptime sequence → StreamsStand l self.old.map.entries items
             → taken_in_books result ≡ taken_now l items (Got d) }
+        ensures counted { (n : ℕ) → Each stream_in (HasTaken n) self.old.map.entries
+            → Each stream_in (HasTaken (n + 1)) self.new.map.entries }
         ensures limit { self.new.limit ≡ self.old.limit }
     {
         if let Some(place) = self.place(&key) {
@@ -137,7 +139,7 @@ impl StreamTable {
         ensures now { (was : StreamState) × (now : StreamState)
             × (self.new.map.entries ≡ self.old.map.entries ++ (key, now) ∷ [])
             × (was.ledger.width ≡ width) × ((slack : ℕ) → StandsFor slack was [])
-            × Takes slack arrival uptime sequence was now result }
+            × Takes slack arrival uptime sequence was now result × (now.ledger.entered + now.stale ≡ 1) }
         ensures limit { self.new.limit ≡ self.old.limit }
     {
         let mut stream = StreamRecord::open(width);

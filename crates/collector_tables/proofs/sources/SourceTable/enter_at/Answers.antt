@@ -1,0 +1,34 @@
+use Rattle.std.proofs.Common.{rules, subst, refl, ◌≡◌}
+use Rattle.indexmap.proofs.CallerLemmas.{index_map_len-with_value_at}
+use Rattle.stream_books.specs.declared.source.SourceRecord.{SourceRecord}
+use Rattle.stream_books.specs.Readings.{reading_in}
+use Rattle.collector_tables.specs.Enters.{Enters}
+use Rattle.collector_tables.proofs.Places.{same-value, entry-of}
+use Rattle.collector_tables.proofs.sources.SourceTable.enter_at.Goals as goal
+
+pub enter-requires : goal.enter-requires
+enter-requires c =
+    let entry = entry-of c.args.self.now.map.entries c.args.place c.index_mut-source.result.now
+    c.index_mut-source.ensures.value in
+    let ready = c.requires.ready entry.0 c.index_mut-source.result.now entry.1 in
+    record { boot_from = ready.0; boot_counts = c.requires.boot_counts; few = ready.1 }
+
+pub invariant_of-self : goal.invariant_of-self
+invariant_of-self c = search (rules, index_map_len-with_value_at)
+
+pub returns-clause-now : goal.returns-clause-now
+returns-clause-now c = λ k was at.
+    let same : c.index_mut-source.result.now ≡ was = same-value c.args.self.now.map.entries c.args.place k was
+    c.index_mut-source.result.now at c.index_mut-source.ensures.value in
+    let P : SourceRecord → Type 0 =
+    λ s. Enters c.args.boot (reading_in c.args.reading) s c.enter.new.self in (
+      c.enter.new.self,
+      refl,
+      subst P same (record {
+        stands = λ current closed number st. c.enter.ensures.stands (reading_in c.args.reading) current closed refl number st;
+        kind = c.enter.ensures.kind;
+        width = c.enter.ensures.width;
+        boot_is = c.enter.ensures.boot;
+        entered = c.enter.ensures.entered;
+      }),
+    )

@@ -1,0 +1,13 @@
+-- What one more reading makes of what is kept of its source.
+use Rattle.std.specs.Prelude.{◌≡◌, ℕ, ◌+◌, List, ◌∷◌, length}
+use Rattle.books_spec.specs.Items.{Reading}
+use Rattle.stream_books.specs.Sources.{StandsFor, is_flow, width_of, boot_of, entered_count}
+use Rattle.stream_books.specs.declared.source.SourceRecord.{SourceRecord}
+
+pub record Enters (boot : ℕ) (r : Reading) (was now : SourceRecord) : Type 0 where
+  pub stands : (current : List Reading) (closed : List (List Reading)) → length closed + 1 ≡ boot
+      → StandsFor was (current ∷ closed) → StandsFor now ((r ∷ current) ∷ closed)
+  pub kind : is_flow now ≡ is_flow was
+  pub width : width_of now ≡ width_of was
+  pub boot_is : boot_of now ≡ boot
+  pub entered : entered_count now ≡ entered_count was + 1

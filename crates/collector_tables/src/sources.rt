@@ -1,0 +1,149 @@
+ghost use Rattle.std.specs.Prelude.{◌≡◌, ℕ, ◌+◌, ◌^◌, ◌≤◌, ◌<◌, ◌++◌, true, false, List, [], ◌∷◌, IfOk, IfNone, IfSome, IsTrue, ◌↔◌, Some, slice_get, length, if◌then◌else◌};
+ghost use Rattle.indexmap.specs.IndexMap.{index_map_len, spare, set_value_at};
+ghost use Rattle.books_spec.specs.Items.{Reading, Source};
+ghost use Rattle.books_spec.specs.Listing.{same_source, among, first_arrivals, unlisted};
+ghost use Rattle.stream_books.specs.Sources.{StandsFor, is_flow, width_of, boot_of, entered_count};
+ghost use Rattle.stream_books.specs.Readings.{reading_in};
+ghost use Rattle.collector_tables.specs.declared.keys.SourceKey.{SourceKey};
+ghost use Rattle.collector_tables.specs.Keys.{source_in};
+ghost use Rattle.collector_tables.specs.Tables.{keys_in};
+ghost use Rattle.collector_tables.specs.Sources.{AreEmpty, after_reading, SourcesStand};
+ghost use Rattle.collector_tables.specs.Enters.{Enters};
+
+use crate::keys::SourceKey;
+use indexmap::IndexMap;
+use std::alloc::{AllocError, Global};
+use std::hash::RandomState;
+use stream_books::{SampleReading, SourceRecord};
+
+/// The sources that are listed, in order of first arrival, in room that was taken at the opening.
+#[derive(Drop)]
+pub struct SourceTable {
+    map: IndexMap<SourceKey, SourceRecord, RandomState>,
+    /// How many sources are listed at most.
+    limit: u32,
+    ghost room: { limit ≤ index_map_len map + spare map },
+}
+
+impl SourceTable {
+    ghost use Rattle.stream_books.specs.declared.source.SourceRecord.{SourceRecord};
+
+    /// No source is listed; there is room for so many.
+    pub fn open(alloc: Global, limit: u32, seed: RandomState) -> Result<SourceTable, AllocError>
+        ensures { IfOk result (λ t. (t.map.entries ≡ []) × (t.limit ≡ limit)) }
+    {
+        let map = IndexMap::with_capacity_and_hasher(alloc, limit as usize, seed)?;
+        Ok(SourceTable { map, limit })
+    }
+
+    /// Whether all sources that may be listed are.
+    pub fn is_full(&self) -> bool
+        ensures { IsTrue result ↔ (self.now.limit ≤ length self.now.map.entries) }
+    {
+        self.map.len() >= self.limit as usize
+    }
+
+    /// The place of a source, if it is listed.
+    pub fn place(&self, key: &SourceKey) -> Option<usize>
+        ensures some { IfSome result (λ p. (k : SourceKey) × (v : SourceRecord)
+            × (slice_get self.now.map.entries p ≡ Some (k, v)) × (source_in k ≡ source_in key.now)) }
+        ensures none { IfNone result
+            (among same_source (keys_in source_in self.now.map.entries) (source_in key.now) ≡ false) }
+    {
+        self.map.get_index_of(key)
+    }
+
+    /// Lists a source behind the others, where there is room and it isn't listed yet.
+    pub fn add(&mut self, key: SourceKey, source: SourceRecord)
+        requires room { length self.old.map.entries < self.old.limit }
+        requires new { among same_source (keys_in source_in self.old.map.entries) (source_in key) ≡ false }
+        ensures entries { self.new.map.entries ≡ self.old.map.entries ++ (key, source) ∷ [] }
+        ensures limit { self.new.limit ≡ self.old.limit }
+    {
+        self.map.insert(key, source).unwrap();
+    }
+
+    /// Enters what a sample of this boot shows into the source at a place.
+    pub fn enter_at(&mut self, place: usize, boot: u64, reading: SampleReading)
+        requires place { place < length self.old.map.entries }
+        requires boot_counts { 1 ≤ boot }
+        requires ready { (k : SourceKey) (was : SourceRecord) → slice_get self.old.map.entries place ≡ Some (k, was)
+            → (boot_of was ≤ boot) × (entered_count was < 2 ^ 62) }
+        ensures now { (k : SourceKey) (was : SourceRecord) → slice_get self.old.map.entries place ≡ Some (k, was)
+            → (now : SourceRecord) × (self.new.map.entries ≡ set_value_at self.old.map.entries place now)
+            × Enters boot (reading_in reading) was now }
+        ensures limit { self.new.limit ≡ self.old.limit }
+    {
+        let source = &mut self.map[place];
+        source.enter(boot, reading);
+    }
+
+    /// Enters what a sample of a source shows, in this boot of its stream, which is that of the last sample or a later
+    /// one; false exactly where the source is new and there is no room. The windows have this width, from 1 to 1,024.
+    /// Fewer than 2^62 samples of each source were entered before.
+    pub fn enter(&mut self, key: SourceKey, width: u32, boot: u64, reading: SampleReading) -> bool
+        requires width_from { 1 ≤ width }
+        requires width_to { width ≤ 1024 }
+        requires boot_counts { 1 ≤ boot }
+        requires ready { (p : ℕ) (k : SourceKey) (was : SourceRecord) → slice_get self.old.map.entries p ≡ Some (k, was)
+            → source_in k ≡ source_in key → (boot_of was ≤ boot) × (entered_count was < 2 ^ 62) }
+        ensures stands { (arrived : List Source) (boots_of : Source → List (List Reading))
+            (current : List Reading) (closed : List (List Reading))
+            → boots_of (source_in key) ≡ current ∷ closed → length closed + 1 ≡ boot
+            → (among same_source (first_arrivals same_source arrived) (source_in key) ≡ false
+            → AreEmpty (current ∷ closed))
+            → SourcesStand self.old.limit width self.old.map.entries arrived boots_of
+            → SourcesStand self.old.limit width self.new.map.entries (source_in key ∷ arrived)
+            (after_reading (source_in key) (reading_in reading) boots_of) }
+        ensures counted { (arrived : List Source) (boots_of : Source → List (List Reading))
+            → SourcesStand self.old.limit width self.old.map.entries arrived boots_of
+            → unlisted same_source self.old.limit (source_in key ∷ arrived)
+            ≡ unlisted same_source self.old.limit arrived + (if result then 0 else 1) }
+        ensures limit { self.new.limit ≡ self.old.limit }
+    {
+        if let Some(place) = self.place(&key) {
+            self.enter_at(place, boot, reading);
+            return true;
+        }
+        if self.is_full() {
+            return false;
+        }
+        self.enter_new(key, width, boot, reading);
+        true
+    }
+
+    // The same of a source that isn't listed yet, where there is room.
+    fn enter_new(&mut self, key: SourceKey, width: u32, boot: u64, reading: SampleReading)
+        requires width_from { 1 ≤ width }
+        requires width_to { width ≤ 1024 }
+        requires boot_counts { 1 ≤ boot }
+        requires room { length self.old.map.entries < self.old.limit }
+        requires new { among same_source (keys_in source_in self.old.map.entries) (source_in key) ≡ false }
+        ensures now { (was : SourceRecord) × (now : SourceRecord)
+            × (self.new.map.entries ≡ self.old.map.entries ++ (key, now) ∷ [])
+            × (is_flow was ≡ key.flow) × (width_of was ≡ width) × StandsFor was []
+            × Enters boot (reading_in reading) was now }
+        ensures limit { self.new.limit ≡ self.old.limit }
+    {
+        let mut source = opened(key.flow, width);
+        source.enter(boot, reading);
+        self.add(key, source);
+    }
+}
+
+// Nothing came yet from a source of this kind.
+fn opened(flow: bool, width: u32) -> SourceRecord
+    requires width_from { 1 ≤ width }
+    requires width_to { width ≤ 1024 }
+    ensures stands { StandsFor result [] }
+    ensures kind { is_flow result ≡ flow }
+    ensures width { width_of result ≡ width }
+    ensures boot { boot_of result ≡ 0 }
+    ensures entered { entered_count result ≡ 0 }
+{
+    if flow {
+        SourceRecord::open_flow(width)
+    } else {
+        SourceRecord::open_counters(width)
+    }
+}
