@@ -1,10 +1,10 @@
 #!/usr/bin/env python3
 """Times a command over a capture beside `wc` and a plain copy: the best of three runs of each, all in one go.
 
-    bench/measure.py CAPTURE COPY COMMAND
+    bench/measure.py CAPTURE COPY COMMAND [WALK]
 
 COPY is the file that the copy writes, best in memory. COMMAND is run by the shell, with the capture as its input; what
-it prints goes into CAPTURE.out.
+it prints goes into CAPTURE.out. WALK is a program that is timed beside it, the walk of bench/walk.c.
 """
 import mmap
 import os
@@ -61,14 +61,16 @@ def peak_memory(command, capture):
 
 
 def main():
-    capture, copy, command = sys.argv[1:]
+    capture, copy, command, *walk = sys.argv[1:]
     size, count = os.path.getsize(capture), datagrams_in(capture)
     print(f"{capture}: {size:,} bytes, {count:,} datagrams")
     rows = [("cat | wc -c", "cat | wc -c"), ("copy", f"dd bs=64k of='{copy}' 2> /dev/null"), (command, command)]
+    rows += [("C walk", f"'{path}'") for path in walk]
     times = {name: seconds(line, capture) for name, line in rows}
-    print(f"{'':24}{'s':>8}{'MB/s':>10}{'datagrams/s':>14}{'of the copy':>13}")
+    print(f"{'':24}{'s':>8}{'MB/s':>10}{'datagrams/s':>14}{'of the copy':>13}{'of the walk' if walk else '':>13}")
     for name, took in times.items():
-        print(f"{name:24}{took:8.3f}{size / took / 1e6:10.0f}{count / took:14,.0f}{times['copy'] / took:13.2f}")
+        beside = f"{times['C walk'] / took:13.2f}" if walk else ""
+        print(f"{name:24}{took:8.3f}{size / took / 1e6:10.0f}{count / took:14,.0f}{times['copy'] / took:13.2f}{beside}")
     print(f"peak resident memory of `{command}`: {peak_memory(command, capture):,} KiB")
 
 
