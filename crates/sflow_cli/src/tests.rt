@@ -49,6 +49,11 @@ const ONE_ENTRY: &str =
     "stream 1 agent 10.0.0.1 sub 0 boots 1 issued 1 received 1 pending 0 lost 0 repeated 0 late 0 stale 0\n\
      total entries 1 malformed 0 unlisted 0 unlisted_samples 0 other 0 taps_ended 0\n";
 
+const TWO_ENTRIES: &str = "entry 1 at 1000 bytes 28\n\
+     datagram agent 10.0.0.1 sub 0 seq 1 uptime 1000 samples 0\n\
+     entry 2 at 1000 bytes 27\n\
+     fault at 24 kind short\n";
+
 const TWO_STREAMS: &str =
     "stream 1 agent 10.0.0.1 sub 0 boots 1 issued 1 received 1 pending 0 lost 0 repeated 0 late 0 stale 0\n\
      stream 2 agent 10.0.0.1 sub 7 boots 1 issued 1 received 1 pending 0 lost 0 repeated 0 late 0 stale 0\n\
@@ -108,6 +113,18 @@ const CHECK: Case<'static> = Case {
     write_fails: &[],
     status: Status::Done,
     taken: "checked 1 faulty 0\n",
+};
+
+const SHOW: Case<'static> = Case {
+    name: "",
+    words: &["show"],
+    input: &[&HEADER, &ENTRY, &CUT_ENTRY],
+    piece: 4096,
+    read_fails: &[],
+    most: 4096,
+    write_fails: &[],
+    status: Status::Done,
+    taken: TWO_ENTRIES,
 };
 
 fn bad_input(at: u128, kind: InputKind) -> Status {
@@ -244,6 +261,46 @@ fn captures_are_checked(rt: HostRuntime) -> Result<(), Fail> {
             name: "padding that isn't zero, which is free",
             input: &[&HEADER, &PADDED],
             ..CHECK
+        },
+    ];
+    for case in &cases {
+        try_case(&rt, rt.alloc(), case)?;
+    }
+    Ok(())
+}
+
+#[test]
+fn entries_are_shown(rt: HostRuntime) -> Result<(), Fail> {
+    let cases = [
+        Case {
+            name: "a sound entry and a malformed one",
+            ..SHOW
+        },
+        Case {
+            name: "the same in pieces of seven bytes",
+            piece: 7,
+            ..SHOW
+        },
+        Case {
+            name: "no entries",
+            input: &[&HEADER],
+            taken: "",
+            ..SHOW
+        },
+        Case {
+            name: "a capture that goes on as none",
+            input: &[&HEADER, &ENTRY, &[0; 4]],
+            status: bad_input(48, InputKind::Cut),
+            taken: "entry 1 at 1000 bytes 28\n\
+                    datagram agent 10.0.0.1 sub 0 seq 1 uptime 1000 samples 0\n",
+            ..SHOW
+        },
+        Case {
+            name: "a sink of ten bytes",
+            most: 10,
+            status: Status::WriteFault,
+            taken: "entry 1 at",
+            ..SHOW
         },
     ];
     for case in &cases {
