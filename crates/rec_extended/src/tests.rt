@@ -103,7 +103,9 @@ fn a_gateway_that_is_made(rt: HostRuntime) -> Result<(), Fail> {
 
 #[test]
 fn gateways_that_fail(rt: HostRuntime) -> Result<(), Fail> {
-    for (size, at) in [(3, 76), (7, 80), (27, 100), (39, 112), (55, 128), (59, 132)] {
+    // Each item of this gateway has four bytes.
+    for before in 0..15usize {
+        let (size, at) = (4 * before + 3, 76 + 4 * before);
         assert!(rt; size <= 64);
         let fault = GatewayRec::read(frame(&GATEWAY[..size]), Pad::Any).err();
         assert_eq!(rt; fault, short(at, 4, 3));
@@ -118,16 +120,19 @@ fn gateways_that_fail(rt: HostRuntime) -> Result<(), Fail> {
         GatewayRec::read(frame(&address), Pad::Any).err(),
         Some(fault)
     );
-    let mut segment = GATEWAY;
-    segment[27] = 3;
-    let fault = Fault {
-        at: 100,
-        kind: FaultKind::SegmentType { found: 3 },
-    };
-    assert_eq!(rt;
-        GatewayRec::read(frame(&segment), Pad::Any).err(),
-        Some(fault)
-    );
+    for (place, at) in [(27, 100), (43, 116)] {
+        assert!(rt; place < 64);
+        let mut segment = GATEWAY;
+        segment[place] = 3;
+        let fault = Fault {
+            at,
+            kind: FaultKind::SegmentType { found: 3 },
+        };
+        assert_eq!(rt;
+            GatewayRec::read(frame(&segment), Pad::Any).err(),
+            Some(fault)
+        );
+    }
     let fault = Fault {
         at: 16,
         kind: FaultKind::Trailing { left: 12 },
@@ -158,5 +163,31 @@ fn switches_and_routers(rt: HostRuntime) -> Result<(), Fail> {
     }
     let fault = RouterRec::read(frame(&ROUTER[..19]), Pad::Any).err();
     assert_eq!(rt; fault, short(80, 16, 15));
+    Ok(())
+}
+
+#[test]
+fn switches_and_routers_that_fail(rt: HostRuntime) -> Result<(), Fail> {
+    // How many bytes are there, and the place and the length of the item that lacks its last byte.
+    for (size, at, need) in [(3, 76, 4), (7, 80, 4), (11, 84, 4), (15, 88, 4)] {
+        assert!(rt; size <= 20 && need > 0);
+        let fault = SwitchRec::read(frame(&SWITCH[..size]), Pad::Any).err();
+        assert_eq!(rt; fault, short(at, need, need - 1));
+    }
+    for (size, at, need) in [(3, 76, 4), (19, 80, 16), (23, 96, 4), (27, 100, 4)] {
+        assert!(rt; size <= 32 && need > 0);
+        let fault = RouterRec::read(frame(&ROUTER[..size]), Pad::Any).err();
+        assert_eq!(rt; fault, short(at, need, need - 1));
+    }
+    let mut address = ROUTER;
+    address[3] = 3;
+    let fault = Fault {
+        at: 76,
+        kind: FaultKind::AddressType { found: 3 },
+    };
+    assert_eq!(rt;
+        RouterRec::read(frame(&address), Pad::Any).err(),
+        Some(fault)
+    );
     Ok(())
 }

@@ -54,6 +54,13 @@ fn short(at: usize, need: u64, left: u64) -> Option<Fault> {
     })
 }
 
+fn stray_padding(at: usize) -> Option<Fault> {
+    Some(Fault {
+        at,
+        kind: FaultKind::Pad,
+    })
+}
+
 #[test]
 fn headers_as_they_stand(rt: HostRuntime) -> Result<(), Fail> {
     for tail in [0, 1, 4] {
@@ -96,25 +103,71 @@ fn packets_as_they_stand(rt: HostRuntime) -> Result<(), Fail> {
 
 #[test]
 fn headers_that_fail(rt: HostRuntime) -> Result<(), Fail> {
-    for (size, at, need) in [(3, 76, 4), (15, 88, 4), (83, 92, 68)] {
+    // How many bytes are there, and the place and the length of the item that lacks its last byte.
+    let rows = [
+        (3, 76, 4),
+        (7, 80, 4),
+        (11, 84, 4),
+        (15, 88, 4),
+        (83, 92, 68),
+    ];
+    for (size, at, need) in rows {
         assert!(rt; size <= 88 && need > 0);
         let fault = RawHeader::read(frame(&RAW[..size]), Pad::Any).err();
         assert_eq!(rt; fault, short(at, need, need - 1));
     }
-    let ethernet = EthernetRec::read(frame(&ETHERNET[..11]), Pad::Any).err();
-    assert_eq!(rt; ethernet, short(80, 8, 7));
-    let ipv4 = Ipv4Rec::read(frame(&IPV4[..15]), Pad::Any).err();
-    assert_eq!(rt; ipv4, short(88, 4, 3));
-    let ipv6 = Ipv6Rec::read(frame(&IPV6[..23]), Pad::Any).err();
-    assert_eq!(rt; ipv6, short(84, 16, 15));
+    let rows = [(3, 76, 4), (11, 80, 8), (19, 88, 8), (23, 96, 4)];
+    for (size, at, need) in rows {
+        assert!(rt; size <= 28 && need > 0);
+        let fault = EthernetRec::read(frame(&ETHERNET[..size]), Pad::Any).err();
+        assert_eq!(rt; fault, short(at, need, need - 1));
+    }
+    let rows = [
+        (3, 76, 4),
+        (7, 80, 4),
+        (11, 84, 4),
+        (15, 88, 4),
+        (19, 92, 4),
+        (23, 96, 4),
+        (27, 100, 4),
+        (31, 104, 4),
+    ];
+    for (size, at, need) in rows {
+        assert!(rt; size <= 36 && need > 0);
+        let fault = Ipv4Rec::read(frame(&IPV4[..size]), Pad::Any).err();
+        assert_eq!(rt; fault, short(at, need, need - 1));
+    }
+    let rows = [
+        (3, 76, 4),
+        (7, 80, 4),
+        (23, 84, 16),
+        (39, 100, 16),
+        (43, 116, 4),
+        (47, 120, 4),
+        (51, 124, 4),
+        (55, 128, 4),
+    ];
+    for (size, at, need) in rows {
+        assert!(rt; size <= 60 && need > 0);
+        let fault = Ipv6Rec::read(frame(&IPV6[..size]), Pad::Any).err();
+        assert_eq!(rt; fault, short(at, need, need - 1));
+    }
+    for place in [10, 11, 18, 19] {
+        assert!(rt; place < 28);
+        let mut stray = ETHERNET;
+        stray[place] = 1;
+        let fault = EthernetRec::read(frame(&stray), Pad::Zero).err();
+        assert_eq!(rt; fault, stray_padding(76 + place));
+    }
+    for place in [81, 82, 83] {
+        assert!(rt; place < 88);
+        let mut stray = RAW;
+        stray[place] = 1;
+        let fault = RawHeader::read(frame(&stray), Pad::Zero).err();
+        assert_eq!(rt; fault, stray_padding(76 + place));
+    }
     let mut padded = ETHERNET;
     padded[11] = 1;
-    let padding = EthernetRec::read(frame(&padded), Pad::Zero).err();
-    let fault = Fault {
-        at: 87,
-        kind: FaultKind::Pad,
-    };
-    assert_eq!(rt; padding, Some(fault));
     let free = EthernetRec::read(frame(&padded), Pad::Any)?;
     assert_eq!(rt; free.dst_mac, Mac([2, 0, 0, 0, 0, 2]));
     Ok(())
