@@ -3,3 +3,4 @@ pub mod Stand
 pub mod Rows
 pub mod RecordRows
 pub mod RecordFrames
+pub mod Counts

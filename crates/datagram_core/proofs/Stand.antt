@@ -30,12 +30,12 @@ not_first : {A : Type 0} (t : Bool) (f : Fault) (r : Result A Fault) (x : A) →
 not_first true f r x e = absurd cc
 not_first false f r x e = e
 
-not_second : {A : Type 0} (t : Bool) (f : Fault) (r : Result A Fault) (x : A) → cond t r (Err f) ≡ Ok x → r ≡ Ok x
+pub not_second : {A : Type 0} (t : Bool) (f : Fault) (r : Result A Fault) (x : A) → cond t r (Err f) ≡ Ok x → r ≡ Ok x
 not_second true f r x e = e
 not_second false f r x e = absurd cc
 
 -- what is left behind a word is bytes too
-bytes_behind : (b : Remaining) (k : ℕ × Remaining) → AreBytes b.bytes → word_at b ≡ Ok k → AreBytes k.1.bytes
+pub bytes_behind : (b : Remaining) (k : ℕ × Remaining) → AreBytes b.bytes → word_at b ≡ Ok k → AreBytes k.1.bytes
 bytes_behind b k fits e =
     let P : Result (ℕ × Remaining) Fault → Type 0 = IsSo b IsWord (FailsItem 4) in
     let so : P (Ok k) = subst P e (word_agrees.so b fits) in

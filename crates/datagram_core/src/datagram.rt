@@ -1,4 +1,4 @@
-ghost use Rattle.std.specs.Prelude.{◌≡◌, IfOk, IfErr};
+ghost use Rattle.std.specs.Prelude.{◌≡◌, ◌≤◌, length, IfOk, IfErr};
 ghost use Rattle.wire_spec.specs.Reading.{members_at};
 ghost use Rattle.wire_spec.specs.Whole.{SpellsWhole, FailsWhole, whole_reading};
 ghost use Rattle.xdr_words.specs.Readers.{Reads, Gives, remaining};
@@ -29,11 +29,15 @@ pub struct Datagram<'a> {
 }
 
 impl<'a> Model for Datagram<'a> {
+    ghost use Rattle.std.specs.Prelude.{◌≤◌, length};
     ghost use Rattle.datagram_core.specs.Heads.{DatagramView, head_of};
 
     ghost Value = { DatagramView };
 
     ghost view = { λ d. record { head = head_of d.head; samples = d.samples } };
+
+    // A sample has at least eight bytes.
+    ghost invariant = { λ d. length d.samples ≤ 8191 };
 }
 
 impl<'a> Datagram<'a> {
@@ -60,9 +64,10 @@ impl<'a> Datagram<'a> {
         self.head
     }
 
-    /// The samples, from the first one on.
+    /// The samples, from the first one on: at most 8,191 of them, since each has at least eight bytes.
     pub fn samples(&self) -> Samples<'a>
-        ensures { result ≡ self.now.samples }
+        ensures exact { result ≡ self.now.samples }
+        ensures few { length result ≤ 8191 }
     {
         self.samples.fork()
     }
@@ -79,7 +84,7 @@ fn parse_parts(bytes: &[u8], pad: Pad) -> Result<Datagram<'_>, Fault>
         });
     }
     let mut cursor = Cursor::new(bytes, pad);
-    let datagram = read_parts(&mut cursor, pad)?;
+    let (head, samples) = read_parts(&mut cursor, pad)?;
     let left = cursor.left();
     if left > 0 {
         return Err(Fault {
@@ -87,13 +92,17 @@ fn parse_parts(bytes: &[u8], pad: Pad) -> Result<Datagram<'_>, Fault>
             kind: FaultKind::Trailing { left: left as u64 },
         });
     }
-    Ok(datagram)
+    Ok(Datagram { head, samples })
 }
 
 // The version, the head and the samples, or the first fault.
-fn read_parts<'a>(cursor: &mut Cursor<'a>, pad: Pad) -> Result<Datagram<'a>, Fault>
+fn read_parts<'a>(
+    cursor: &mut Cursor<'a>,
+    pad: Pad,
+) -> Result<(DatagramHead, Samples<'a>), Fault>
     requires { pad ≡ cursor.old.pad }
-    ensures { Reads parts_of (λ f. f) cursor.old cursor.new result (behind_version_at pad samples_read (remaining cursor.old)) }
+    ensures { Reads (λ x. (head_trees (head_of x.0), x.1)) (λ f. f) cursor.old cursor.new result
+        (behind_version_at pad samples_read (remaining cursor.old)) }
 {
     let mut next = cursor.fork();
     let version = next.word()?;
@@ -106,7 +115,7 @@ fn read_parts<'a>(cursor: &mut Cursor<'a>, pad: Pad) -> Result<Datagram<'a>, Fau
     let head = read_head(&mut next)?;
     let samples = read_samples(&mut next, pad)?;
     *cursor = next;
-    Ok(Datagram { head, samples })
+    Ok((head, samples))
 }
 
 // What stands between the version and the samples, or the first fault.
