@@ -5,13 +5,13 @@ use Rattle.show_lines.proofs.entry.put_datagram.Goals as goal
 
 pub returns-in_err-put_head-clause-prints : goal.returns-in_err-put_head-clause-prints
 returns-in_err-put_head-clause-prints g c =
-    let line = line-datagram c.args.datagram.now _ _ c.head.ensures (c.len.ensures ∙ ap length c.samples-samples.ensures) in
+    let line = line-datagram c.args.datagram.now _ _ c.head.ensures (c.len.ensures ∙ ap length c.samples-samples.ensures.exact) in
     prints_same _ _ _ _ _ _ _ (sym (text-datagram c.args.datagram.now))
     (prints_first _ _ _ _ _ _ _ _ c.from_residual.ensures.1 (rw line at c.in_err-put_head.ensures.prints))
 
 pub returns-clause-prints : goal.returns-clause-prints
 returns-clause-prints g c =
-    let line = line-datagram c.args.datagram.now _ _ c.head.ensures (c.len.ensures ∙ ap length c.samples-samples.ensures) in
+    let line = line-datagram c.args.datagram.now _ _ c.head.ensures (c.len.ensures ∙ ap length c.samples-samples.ensures.exact) in
     prints_same _ _ _ _ _ _ _ (sym (text-datagram c.args.datagram.now))
     (prints_second _ _ _ _ _ _ _ _ _ (rw line at c.in_ok-put_head.ensures.prints)
-    (rw c.samples-samples.ensures at c.put_samples.ensures.prints))
+    (rw c.samples-samples.ensures.exact at c.put_samples.ensures.prints))
