@@ -17,6 +17,8 @@ use wire_spec::Pad;
 impl<'a> Record<'a> {
     /// The record of this kind in a frame, by its format; or the first fault in its body. The place behind the body is
     /// below 2^32.
+    // A check has no use for the value, which then isn't made.
+    #[inline(always)]
     pub(crate) fn read(kind: RecordKind, frame: Frame<'a>, pad: Pad) -> Result<Record<'a>, Fault>
         requires { frame.at + length frame.body.now < 2 ^ 32 }
         ensures exact { Gives record_tree (λ f. f) result
@@ -32,6 +34,7 @@ impl<'a> Record<'a> {
 }
 
 // The flow record in a frame, or the first fault in its body.
+#[inline(always)]
 fn read_flow<'a>(frame: Frame<'a>, pad: Pad) -> Result<Record<'a>, Fault>
     requires { frame.at + length frame.body.now < 2 ^ 32 }
     ensures exact { Gives record_tree (λ f. f) result
@@ -54,6 +57,7 @@ fn read_flow<'a>(frame: Frame<'a>, pad: Pad) -> Result<Record<'a>, Fault>
 }
 
 // The counter record in a frame, or the first fault in its body.
+#[inline(always)]
 fn read_counters<'a>(frame: Frame<'a>, pad: Pad) -> Result<Record<'a>, Fault>
     requires { frame.at + length frame.body.now < 2 ^ 32 }
     ensures exact { Gives record_tree (λ f. f) result

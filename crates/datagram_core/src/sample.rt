@@ -30,6 +30,8 @@ pub enum Sample<'a> {
 
 impl<'a> Sample<'a> {
     /// The sample in a frame, by its format; or the first fault in its body. The place behind the body is below 2^32.
+    // A check has no use for the value, which then isn't made.
+    #[inline(always)]
     pub(crate) fn read(frame: Frame<'a>, pad: Pad) -> Result<Sample<'a>, Fault>
         requires { frame.at + length frame.body.now < 2 ^ 32 }
         ensures exact { Gives sample_tree (λ f. f) result
@@ -66,6 +68,7 @@ impl<'a> Sample<'a> {
 
 // The sample in a frame of each format that is read, or the first fault in its body.
 
+#[inline(always)]
 fn read_flow<'a>(frame: Frame<'a>, pad: Pad) -> Result<Sample<'a>, Fault>
     requires format { format_word frame.format ≡ 1 }
     requires place { frame.at + length frame.body.now < 2 ^ 32 }
@@ -76,6 +79,7 @@ fn read_flow<'a>(frame: Frame<'a>, pad: Pad) -> Result<Sample<'a>, Fault>
     Ok(Sample::Flow(FlowSample::read(frame, pad, &RecordKind::Flow)?))
 }
 
+#[inline(always)]
 fn read_counters<'a>(frame: Frame<'a>, pad: Pad) -> Result<Sample<'a>, Fault>
     requires format { format_word frame.format ≡ 2 }
     requires place { frame.at + length frame.body.now < 2 ^ 32 }
@@ -86,6 +90,7 @@ fn read_counters<'a>(frame: Frame<'a>, pad: Pad) -> Result<Sample<'a>, Fault>
     Ok(Sample::Counters(CountersSample::read(frame, pad, &RecordKind::Counters)?))
 }
 
+#[inline(always)]
 fn read_expanded_flow<'a>(frame: Frame<'a>, pad: Pad) -> Result<Sample<'a>, Fault>
     requires format { format_word frame.format ≡ 3 }
     requires place { frame.at + length frame.body.now < 2 ^ 32 }
@@ -96,6 +101,7 @@ fn read_expanded_flow<'a>(frame: Frame<'a>, pad: Pad) -> Result<Sample<'a>, Faul
     Ok(Sample::FlowX(FlowSampleX::read(frame, pad, &RecordKind::Flow)?))
 }
 
+#[inline(always)]
 fn read_expanded_counters<'a>(frame: Frame<'a>, pad: Pad) -> Result<Sample<'a>, Fault>
     requires format { format_word frame.format ≡ 4 }
     requires place { frame.at + length frame.body.now < 2 ^ 32 }

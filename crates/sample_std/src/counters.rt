@@ -42,6 +42,7 @@ impl<'a> CountersSample<'a> {
     /// the front on: `Short` at a word, or at a record's padded body, that the sample's body doesn't hold; else what
     /// the check finds in a record's body, and `Pad` at the padding behind it, as `Frames::read` says. The place behind
     /// the body is below 2^32.
+    #[inline(always)]
     pub fn read<C: BodyCheck>(
         frame: Frame<'a>,
         pad: Pad,

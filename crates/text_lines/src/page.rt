@@ -14,9 +14,9 @@ use itoa::Buffer;
 use sflow_io::{Failed, Sink, write_all};
 use std::marker::Model;
 
-const ROOM: usize = 1024;
+const ROOM: usize = 16_384;
 
-/// Text that is gathered and not yet written, up to 1,024 bytes, so that a line isn't many small
+/// Text that is gathered and not yet written, up to 16,384 bytes, so that a line isn't many small
 /// writes. A contract sees the bytes that it holds.
 #[derive(Debug, Drop)]
 pub struct Page {
@@ -31,7 +31,7 @@ impl Model for Page {
 
     ghost view = { λ p. take p.len p.room };
 
-    ghost invariant = { λ p. p.len ≤ 1024 };
+    ghost invariant = { λ p. p.len ≤ 16384 };
 }
 
 impl Page {
@@ -58,7 +58,7 @@ impl Page {
 
     // Gathers bytes for which there is room.
     fn gather(&mut self, bytes: &[u8])
-        requires { length self.old + length bytes.now ≤ 1024 }
+        requires { length self.old + length bytes.now ≤ 16384 }
         ensures { self.new ≡ self.old ++ bytes.now }
     {
         let end = self.len + bytes.len();

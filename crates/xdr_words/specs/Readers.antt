@@ -1,8 +1,14 @@
 -- A reader of bytes, and what its calls do.
-use Rattle.std.specs.Prelude.{◌≡◌, ℕ, ◌+◌, List, ◌++◌, length, Result, Ok, Err}
+use Rattle.std.specs.Prelude.{◌≡◌, ℕ, zero, suc, ◌+◌, List, ◌++◌, length, Result, Ok, Err}
 use Rattle.wire_spec.specs.declared.pad.Pad.{Pad}
+use Rattle.wire_spec.specs.declared.pad.Pad.TheVariants as pads
 use Rattle.wire_spec.specs.declared.fault.Fault.{Fault}
 use Rattle.wire_spec.specs.Fails.{Remaining}
+
+-- how padding is read, by a number: zeros are asked for where it isn't 0
+abbrev pub pad_by : ℕ → Pad
+pad_by zero = pads.Any
+pad_by (suc n) = pads.Zero
 
 -- how padding is read, the place of the next byte, and the bytes that are left
 pub record Reader : Type 0 where

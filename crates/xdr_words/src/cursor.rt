@@ -22,17 +22,19 @@ use wire_spec::Pad;
 pub struct Cursor<'a> {
     bytes: &'a [u8],
     at: usize,
-    pad: Pad,
+    // 1 where padding has to be zero, else 0. It is as wide as a place: a narrower field would leave bytes behind it
+    // that are copied with each cursor, and slowly.
+    zeros: usize,
 }
 
 impl<'a> Model for Cursor<'a> {
     ghost use Rattle.std.specs.Prelude.{◌<◌, ◌+◌, ◌^◌, length};
     ghost use Rattle.wire_spec.specs.Bytes.{AreBytes};
-    ghost use Rattle.xdr_words.specs.Readers.{Reader};
+    ghost use Rattle.xdr_words.specs.Readers.{Reader, pad_by};
 
     ghost Value = { Reader };
 
-    ghost view = { λ c. record { pad = c.pad; at = c.at; bytes = c.bytes.now } };
+    ghost view = { λ c. record { pad = pad_by c.zeros; at = c.at; bytes = c.bytes.now } };
 
     ghost invariant = { λ c. (c.at + length c.bytes.now < 2 ^ 32) × AreBytes c.bytes.now };
 }
@@ -51,14 +53,42 @@ impl<'a> Cursor<'a> {
         requires { at + length bytes.now < 2 ^ 32 }
         ensures { result ≡ record { pad = pad; at = at; bytes = bytes.now } }
     {
-        Cursor { bytes, at, pad }
+        let zeros = match pad {
+            Pad::Any => 0,
+            Pad::Zero => 1,
+        };
+        Cursor { bytes, at, zeros }
+    }
+
+    // How padding is read.
+    fn pad(&self) -> Pad
+        ensures { result ≡ self.now.pad }
+    {
+        if self.zeros == 0 {
+            Pad::Any
+        } else {
+            Pad::Zero
+        }
+    }
+
+    // Past so many bytes, behind which this is left.
+    fn advance(&mut self, count: usize, rest: &'a [u8])
+        requires { self.old.at + count + length rest.now < 2 ^ 32 }
+        ensures { self.new ≡ record self.old { at = self.old.at + count; bytes = rest.now } }
+    {
+        self.at += count;
+        self.bytes = rest;
     }
 
     /// The same cursor once more.
     pub fn fork(&self) -> Cursor<'a>
         ensures { result ≡ self.now }
     {
-        Cursor::within(self.bytes, self.pad, self.at)
+        Cursor {
+            bytes: self.bytes,
+            at: self.at,
+            zeros: self.zeros,
+        }
     }
 
     /// The place of the next byte. What is left are bytes, and the place behind the last of them is below 2^32.
@@ -95,7 +125,7 @@ impl<'a> Cursor<'a> {
         }
         let (front, rest) = self.bytes.split_at(4);
         let value = word_of(front);
-        *self = Cursor::within(rest, self.pad, self.at + 4);
+        self.advance(4, rest);
         Ok(value)
     }
 
@@ -110,7 +140,7 @@ impl<'a> Cursor<'a> {
         }
         let (front, rest) = self.bytes.split_at(8);
         let value = hyper_of(front);
-        *self = Cursor::within(rest, self.pad, self.at + 8);
+        self.advance(8, rest);
         Ok(value)
     }
 
@@ -185,7 +215,7 @@ impl<'a> Cursor<'a> {
         }
         let (bytes, rest) = next.bytes.split_at(n);
         let at = next.at;
-        *self = Cursor::within(rest, self.pad, at + n);
+        self.advance(4 + n, rest);
         Ok(Body { bytes, at })
     }
 
@@ -196,8 +226,8 @@ impl<'a> Cursor<'a> {
     {
         let padding = (4 - length % 4) % 4;
         let (filler, rest) = self.bytes.split_at(padding);
-        check_padding(self.pad, self.at, filler)?;
-        *self = Cursor::within(rest, self.pad, self.at + padding);
+        check_padding(self.pad(), self.at, filler)?;
+        self.advance(padding, rest);
         Ok(())
     }
 
@@ -211,8 +241,8 @@ impl<'a> Cursor<'a> {
         }
         let (value, behind) = self.bytes.split_at(n);
         let (filler, rest) = behind.split_at(padding);
-        check_padding(self.pad, self.at + n, filler)?;
-        *self = Cursor::within(rest, self.pad, self.at + n + padding);
+        check_padding(self.pad(), self.at + n, filler)?;
+        self.advance(n + padding, rest);
         Ok(value)
     }
 
