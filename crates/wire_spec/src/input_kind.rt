@@ -1,6 +1,6 @@
 // Why an input is refused.
 
-/// Why an input is no capture that this version replays, or no script.
+/// Why an input is no capture, or no script.
 #[derive(Clone, Copy, Debug, PartialEq, Eq)]
 pub enum InputKind {
     /// A capture doesn't begin with the four bytes of its magic.
@@ -15,6 +15,4 @@ pub enum InputKind {
     Padding,
     /// A script is outside its grammar.
     Script,
-    /// A capture that this version can't replay yet.
-    Unbuilt,
 }

@@ -64,11 +64,7 @@ impl<'a> Cursor<'a> {
     fn pad(&self) -> Pad
         ensures { result ≡ self.now.pad }
     {
-        if self.zeros == 0 {
-            Pad::Any
-        } else {
-            Pad::Zero
-        }
+        if self.zeros == 0 { Pad::Any } else { Pad::Zero }
     }
 
     // Past so many bytes, behind which this is left.
