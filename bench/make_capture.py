@@ -1,18 +1,18 @@
 #!/usr/bin/env python3
 """Makes a capture for measurements: the same bytes for the same seed, size and kind.
 
-    bench/make_capture.py SEED BYTES KIND FILE [--malformed PER_MILLE]
+    bench/make_capture.py SEED BYTES KIND FILE [--malformed PER_MILLE] [--streams STREAMS]
 
 KIND is `plain`, datagrams of 28 to 1,400 bytes whose samples have a format outside the standard, or `flows`,
 datagrams of about six flow samples, with a counters sample in every twentieth. The capture ends with the entry
-that reaches BYTES. With --malformed about that many of a thousand entries are malformed datagrams.
+that reaches BYTES. With --malformed about that many of a thousand entries are malformed datagrams. The datagrams are
+of STREAMS sub-agents, 8 unless said otherwise, each with four sources of flow samples and four of counters samples.
 """
 import argparse
 import random
 import struct
 
 CHUNK = 1 << 22
-STREAMS = 8
 SOURCES = 4
 RATE = 512
 # Enterprise 8800, number 1.
@@ -23,7 +23,8 @@ class Stream:
     """One sub-agent of an agent, with its sequence number and those of its sources."""
 
     def __init__(self, number, rng):
-        self.head = struct.pack(">II4BI", 5, 1, 10, 0, number // 2, 1, number % 2)
+        agent, sub_agent = divmod(number, 2)
+        self.head = struct.pack(">IIBHBI", 5, 1, 10, agent, 1, sub_agent)
         self.started = rng.randrange(10_000)
         self.datagrams = 0
         self.flows = [0] * SOURCES
@@ -95,14 +96,14 @@ def broken(rng, datagram):
     return rng.choice((datagram[:len(datagram) // 2], b"\0\0\0\4" + datagram[4:], datagram + bytes(4)))
 
 
-def entries(rng, kind, per_mille):
-    """The entries of an endless capture."""
-    streams = [Stream(number, rng) for number in range(STREAMS)]
+def entries(rng, kind, per_mille, count):
+    """The entries of an endless capture of so many streams."""
+    streams = [Stream(number, rng) for number in range(count)]
     noise = rng.randbytes(1 << 20)
     records = [flow_records(rng) for _ in range(1024)]
     arrival = 1_000
     while True:
-        stream = streams[rng.randrange(STREAMS)]
+        stream = streams[rng.randrange(count)]
         samples = foreign_samples(rng, noise) if kind == "plain" else flow_samples(stream, rng, records)
         datagram = stream.datagram(arrival, samples)
         if per_mille and rng.randrange(1000) < per_mille:
@@ -131,8 +132,9 @@ def main():
     parser.add_argument("kind", choices=("plain", "flows"))
     parser.add_argument("file")
     parser.add_argument("--malformed", type=int, default=0, metavar="PER_MILLE")
+    parser.add_argument("--streams", type=int, default=8)
     words = parser.parse_args()
-    made = entries(random.Random(f"{words.kind} {words.seed}"), words.kind, words.malformed)
+    made = entries(random.Random(f"{words.kind} {words.seed}"), words.kind, words.malformed, words.streams)
     with open(words.file, "wb") as file:
         write_capture(file, words.bytes, made)
 

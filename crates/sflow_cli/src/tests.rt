@@ -59,7 +59,7 @@ const TWO_STREAMS: &str =
      stream 2 agent 10.0.0.1 sub 7 boots 1 issued 1 received 1 pending 0 lost 0 repeated 0 late 0 stale 0\n\
      total entries 2 malformed 0 unlisted 0 unlisted_samples 0 other 0 taps_ended 0\n";
 
-fn words(alloc: Global, texts: &[&str]) -> Result<Vec<String>, Fail> {
+pub(crate) fn words(alloc: Global, texts: &[&str]) -> Result<Vec<String>, Fail> {
     let mut words = Vec::new(alloc);
     for text in texts {
         words.push(String::from_str(alloc, text)?)?;
