@@ -95,7 +95,7 @@ module _ (input : List ℕ) (are : AreBytes input) (reader reader' : ReaderState
       let h = behind reader'.stage (unread reader' left') going (given input far.entries are far.given) in
       record {
         entries = far.entries;
-        unbuilt = record {
+        unbuilt = λ limits. record {
           entry = entry;
           rest = h.0;
           before = h.1;

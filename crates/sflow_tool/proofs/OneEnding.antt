@@ -141,7 +141,7 @@ no_further c es r status e mid (refused f more at never few' is) front takes few
 no_further c es r status e mid (goes_on some number is) front takes few = omega arith
 
 takes_front : (c : Command) (es more : List Entry) → Takes c (es ++ more) → Takes c es
-takes_front Replay es more takes = distinct_front es more takes
+takes_front (Replay limits) es more takes = distinct_front es more takes
 takes_front Show es more takes = tt
 takes_front (Check pad) es more takes = tt
 

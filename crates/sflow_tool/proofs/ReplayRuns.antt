@@ -9,6 +9,7 @@ use Rattle.sflow_io.specs.declared.capture.ReadRefusal.{ReadRefusal}
 use Rattle.sflow_io.specs.declared.capture.ReadRefusal.TheVariants as refusals
 use Rattle.sflow_io.specs.Causes.{Rose}
 use Rattle.sflow_io.specs.Streams.{AppendsPrefix}
+use Rattle.collector_views.specs.declared.limits.Limits.{Limits}
 use Rattle.command_words.specs.declared.command.Command.TheVariants.{Replay}
 use Rattle.sflow_tool.specs.declared.replay.Halt.TheVariants as halts
 use Rattle.sflow_tool.specs.declared.status.Status.{Status}
@@ -32,14 +33,14 @@ tally_report t items is =
     ∙ ap (λ n. report_text (heads_of items) (first_fault 1 items) n t.malformed) is.entries
     ∙ ap (report_text (heads_of items) (first_fault 1 items) (length items)) is.malformed
 
-module _ (left left' a : Option (List ℕ)) (read read' written : ℕ) where
+module _ (limits : Limits) (left left' a : Option (List ℕ)) (read read' written : ℕ) where
   -- ---- all entries were counted
 
   module _ (b : Option (List ℕ)) (written' : ℕ) (t : TallyView)
       (told : (input : List ℕ) → AreBytes input → left ≡ Some input → CollectedAll input t)
       (at_end : IsAtEnd left') (cause : HasReadCause read read' (Ok tt)) where
     pub reported : Appends a b (report_text t.heads t.first_fault t.entries t.malformed) → written' ≡ written
-        → Runs Replay left left' a b read read' written written' Done
+        → Runs (Replay limits) left left' a b read read' written written' Done
     reported all kept = record {
       may = tt;
       ends = λ input are is.
@@ -59,7 +60,7 @@ module _ (left left' a : Option (List ℕ)) (read read' written : ℕ) where
     }
 
     pub not_reported : AppendsPrefix a b (report_text t.heads t.first_fault t.entries t.malformed) → Rose written written'
-        → Runs Replay left left' a b read read' written written' WriteFault
+        → Runs (Replay limits) left left' a b read read' written written' WriteFault
     not_reported some rose = record {
       may = tt;
       ends = λ input are is.
@@ -84,7 +85,7 @@ module _ (left left' a : Option (List ℕ)) (read read' written : ℕ) where
   refused : (refusal : ReadRefusal)
       → ((input : List ℕ) → AreBytes input → left ≡ Some input → CollectedSome input refusal)
       → HasReadCause read read' (Err (halts.Read refusal))
-      → Runs Replay left left' a a read read' written written (refusal_status refusal)
+      → Runs (Replay limits) left left' a a read read' written written (refusal_status refusal)
   refused refusals.ReadFault told cause = record {
     may = tt;
     ends = λ input are is.
@@ -140,21 +141,21 @@ module _ (left left' a : Option (List ℕ)) (read read' written : ℕ) where
   pub refusal_ends : (refusal : ReadRefusal) (status : Status) → status ≡ refusal_status refusal
       → ((input : List ℕ) → AreBytes input → left ≡ Some input → CollectedSome input refusal)
       → HasReadCause read read' (Err (halts.Read refusal))
-      → Runs Replay left left' a a read read' written written status
+      → Runs (Replay limits) left left' a a read read' written written status
   refusal_ends refusal status named told cause =
-      subst (Runs Replay left left' a a read read' written written) (sym named) (refused refusal told cause)
+      subst (Runs (Replay limits) left left' a a read read' written written) (sym named) (refused refusal told cause)
 
   pub unbuilt_ends : (at : ℕ)
       → ((input : List ℕ) → AreBytes input → left ≡ Some input → CollectedUnbuilt input at)
       → HasReadCause read read' (Err (halts.Unbuilt at))
-      → Runs Replay left left' a a read read' written written (BadInput at Unbuilt)
+      → Runs (Replay limits) left left' a a read read' written written (BadInput at Unbuilt)
   unbuilt_ends at told cause = record {
     may = tt;
     ends = λ input are is.
         let c = told input are is in
         record {
           entries = c.entries;
-          reads = record { taken = c.distinct; ends = unbuilt c.unbuilt };
+          reads = record { taken = c.distinct; ends = unbuilt (c.unbuilt limits) };
           taken = Appends-nil a;
         };
     at_end = λ e. elim e [ inl e ↦ absurd cc | inr e ↦ absurd cc ];

@@ -7,6 +7,7 @@ use Rattle.sflow_io.specs.declared.capture.ReadRefusal.{ReadRefusal}
 use Rattle.sflow_io.specs.declared.capture.ReadRefusal.TheVariants as refusals
 use Rattle.sflow_io.specs.Causes.{Rose}
 use Rattle.sflow_io.specs.CaptureSteps.{IsAllOf, EndsAt}
+use Rattle.collector_views.specs.declared.limits.Limits.{Limits}
 use Rattle.command_words.specs.declared.command.Command.TheVariants.{Replay}
 use Rattle.sflow_tool.specs.declared.replay.Halt.{Halt}
 use Rattle.sflow_tool.specs.declared.replay.Halt.TheVariants as halts
@@ -29,7 +30,7 @@ pub record CollectedSome (input : List ℕ) (refusal : ReadRefusal) : Type 0 whe
 -- a further datagram of a stream stands at this offset
 pub record CollectedUnbuilt (input : List ℕ) (at : ℕ) : Type 0 where
   pub entries : List Entry
-  pub unbuilt : IsUnbuilt Replay entries input at Unbuilt
+  pub unbuilt : (limits : Limits) → IsUnbuilt (Replay limits) entries input at Unbuilt
   pub distinct : AreDistinct (items_of entries)
 
 -- how counting may end

@@ -20,43 +20,43 @@ shown_lines entries = lines_of entry_text 1 entries
 
 -- the text where the capture is read to its end
 abbrev pub whole_text : Command → List Entry → List ℕ
-whole_text Replay entries = report_of (items_of entries)
+whole_text (Replay limits) entries = report_of (items_of entries)
 whole_text Show entries = shown_lines entries
 whole_text (Check pad) entries = check_text pad entries
 
 -- the text where reading ends before that
 abbrev pub part_text : Command → List Entry → List ℕ
-part_text Replay entries = []
+part_text (Replay limits) entries = []
 part_text Show entries = shown_lines entries
 part_text (Check pad) entries = check_lines pad entries
 
 -- whether a run over all of these entries has found what it was to find
 abbrev pub finds : Command → List Entry → Bool
-finds Replay entries = false
+finds (Replay limits) entries = false
 finds Show entries = false
 finds (Check pad) entries = nat_lt 0 (faulty_count pad entries)
 
 -- the command is built for these entries
 abbrev pub Takes : Command → List Entry → Type 0
-Takes Replay entries = AreDistinct (items_of entries)
+Takes (Replay limits) entries = AreDistinct (items_of entries)
 Takes Show entries = Unit {0}
 Takes (Check pad) entries = Unit {0}
 
 -- the command writes nothing before it has read all
 abbrev pub WritesAtTheEnd : Command → Type 0
-WritesAtTheEnd Replay = Unit {0}
+WritesAtTheEnd (Replay limits) = Unit {0}
 WritesAtTheEnd Show = ⊥
 WritesAtTheEnd (Check pad) = ⊥
 
 -- the command takes all memory before it reads or writes a byte
 abbrev pub TakesMemoryFirst : Command → Type 0
-TakesMemoryFirst Replay = ⊥
+TakesMemoryFirst (Replay limits) = ⊥
 TakesMemoryFirst Show = Unit {0}
 TakesMemoryFirst (Check pad) = Unit {0}
 
 -- the command may find something
 abbrev pub MayFind : Command → Type 0
-MayFind Replay = ⊥
+MayFind (Replay limits) = ⊥
 MayFind Show = ⊥
 MayFind (Check pad) = Unit {0}
 

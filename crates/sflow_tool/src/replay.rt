@@ -12,6 +12,7 @@ use crate::ending::{new_room, status_of};
 use crate::item::read_item;
 use crate::report::write_report;
 use crate::tally::{Refused, Tally};
+use command_words::Limits;
 use sflow_io::{CaptureReader, Next, ReadRefusal, Sink, Source};
 use std::alloc::Global;
 use wire_spec::{InputKind, Pad};
@@ -30,9 +31,14 @@ pub enum Halt {
     Memory,
 }
 
-// Reads a capture and writes its report.
-pub(crate) fn replay<S: Source, K: Sink>(alloc: Global, source: &mut S, sink: &mut K) -> Status
-    ensures { Runs commands.Replay (S.left source.old) (S.left source.new) (K.taken sink.old) (K.taken sink.new)
+// Reads a capture and writes its report. A tally of one datagram a stream needs no limits yet.
+pub(crate) fn replay<S: Source, K: Sink>(
+    alloc: Global,
+    limits: Limits,
+    source: &mut S,
+    sink: &mut K,
+) -> Status
+    ensures { Runs (commands.Replay limits) (S.left source.old) (S.left source.new) (K.taken sink.old) (K.taken sink.new)
         (S.faults source.old) (S.faults source.new) (K.faults sink.old) (K.faults sink.new) result }
 {
     let Ok(mut reader) = CaptureReader::open(alloc) else {
@@ -40,7 +46,7 @@ pub(crate) fn replay<S: Source, K: Sink>(alloc: Global, source: &mut S, sink: &m
     };
     let mut tally = Tally::new(alloc);
     match new_room(alloc) {
-        Ok(mut room) => replay_in(&mut reader, &mut room, &mut tally, source, sink),
+        Ok(mut room) => replay_in(&mut reader, &mut room, &mut tally, limits, source, sink),
         Err(_) => Status::Memory,
     }
 }
@@ -50,13 +56,14 @@ fn replay_in<S: Source, K: Sink>(
     reader: &mut CaptureReader,
     room: &mut [u8],
     tally: &mut Tally,
+    limits: Limits,
     source: &mut S,
     sink: &mut K,
 ) -> Status
     requires fresh { reader.old ≡ record { stage = Start; held = [] } }
     requires room { 65535 ≤ length room.old }
     requires nothing { tally.old ≡ nothing }
-    ensures { Runs commands.Replay (S.left source.old) (S.left source.new) (K.taken sink.old) (K.taken sink.new)
+    ensures { Runs (commands.Replay limits) (S.left source.old) (S.left source.new) (K.taken sink.old) (K.taken sink.new)
         (S.faults source.old) (S.faults source.new) (K.faults sink.old) (K.faults sink.new) result }
 {
     match collect(reader, source, room, tally) {

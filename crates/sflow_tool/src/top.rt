@@ -44,7 +44,7 @@ pub fn run<S: Source, K: Sink>(
         → (result ≡ ending) ⊎ (result ≡ Status.Memory) }
 {
     match read_words(alloc, words) {
-        Ok(Asked::Replay) => replay(alloc, source, sink),
+        Ok(Asked::Replay { limits }) => replay(alloc, limits, source, sink),
         Ok(Asked::Show) => show(alloc, source, sink),
         Ok(Asked::Check { pad }) => check(alloc, pad, source, sink),
         Err(WordsRefusal::Usage) => Status::Usage,
