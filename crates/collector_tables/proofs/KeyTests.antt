@@ -1,12 +1,13 @@
 -- Keys are compared as streams and sources are.
-use Rattle.std.proofs.Common.{◌≡◌, ℕ, Bool, true, false, ◌||◌, Option, Some, None, List, [], ◌∷◌, length, get_or, refl, sym, ap, ◌∙◌, ◌<◌, zero, suc, true≢false, arith}
+use Rattle.std.proofs.Common.{◌≡◌, ℕ, Bool, true, false, ◌||◌, Option, Some, None, List, [], ◌∷◌, length, get_or, refl, ◌+◌, sym, ap, ◌∙◌, ◌<◌, ◌≤◌, cond, not, zero, suc, true≢false, arith}
 use Rattle.std.specs.Prelude.{slice_get, position, ◌&&◌, ◌==◌}
-use Rattle.std.specs.List.{list_any}
+use Rattle.std.specs.List.{list_any, position_or_len}
 use Rattle.std.specs.Map.{keys_of}
 use Rattle.std.specs.Option.{is_some}
 use Rattle.std.proofs.lemmas.Map.Made.{is_some-lookup}
 use Rattle.indexmap.specs.IndexMap.{IndexMap, get}
 use Rattle.std.proofs.lemmas.List.Quantifiers.{position-Some}
+use Rattle.std.proofs.lemmas.List.Sums.{position_or_len_is}
 use Rattle.data_format.specs.declared.address.Address.{Address}
 use Rattle.data_format.specs.declared.address.Address.TheVariants.{Unknown, V4, V6}
 use Rattle.data_format.specs.declared.source.SourceId.{SourceId}
@@ -64,6 +65,22 @@ module _ {K V S : Type 0} (eq : K → K → Bool) (key : K → S) (same : S → 
       let p = position-Some (eq k) (keys_of entries) i k at in
       let e = entry-at entries i k p.0 in
       (e.0, e.1, e.2, sym (agree k e.0) ∙ ap (eq k) (sym e.3) ∙ p.1)
+
+  same-place : (k : K) (entries : List (K × V))
+      → position_or_len (eq k) (keys_of entries) ≡ position_or_len (same (key k)) (keys_in key entries)
+  same-place k [] = refl
+  same-place k (e ∷ more) =
+      let here = agree k e.0 in
+      let later = same-place k more in
+      λ j. cond (not (here j)) (1 + later j) zero
+
+  -- and it is the first such place
+  pub place-of : (k : K) (entries : List (K × V)) (i : ℕ) → position (eq k) (keys_of entries) ≡ Some i
+      → i ≡ position_or_len (same (key k)) (keys_in key entries)
+  place-of k entries i at =
+      let p = position-Some (eq k) (keys_of entries) i k at in
+      let first = position_or_len_is (eq k) (keys_of entries) i k (omega arith) p.2 (λ less. p.1) in
+      sym first ∙ same-place k entries
 
 -- a stream that isn't among those of a table has no entry there
 pub absent-stream : {V R : Type 0} (m : IndexMap StreamKey V R) (k : StreamKey)

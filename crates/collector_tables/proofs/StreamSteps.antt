@@ -50,6 +50,15 @@ among-at (e ∷ more) (suc n) k v at =
     later true b h = refl
     later false b h = h
 
+-- the boots of the stream at a place
+pub boots-at : (l : Limits) (entries : List (StreamKey × StreamState)) (items : List Item) (place : ℕ) (k : StreamKey)
+    (v : StreamState) (stream : Stream) → slice_get entries place ≡ Some (k, v) → stream_in k ≡ stream
+    → StreamsStand l entries items → v.ledger.boot ≡ length (stream_boots l stream items)
+boots-at l entries items place k v stream at this st =
+    let own_stands = each-at stream_in (StreamStands l items) entries place k v at st.each in
+    own_stands.stands.boots_are
+    ∙ (λ j. length (boots stamp_of l.boot_slack (own_stands.width j) (own (this j) items)))
+
 module _ (l : Limits) (entries : List (StreamKey × StreamState)) (items : List Item) (d : Datagram) where
   -- a stream goes on for one that isn't its own
   goes-on : (t : Stream) (s : StreamState) → same_stream t (stream_of d) ≡ false

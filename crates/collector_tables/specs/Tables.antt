@@ -1,5 +1,10 @@
 -- The entries of a table, in the order of their places, and what they stand for.
-use Rattle.std.specs.Prelude.{◌≡◌, List, [], ◌∷◌, map}
+use Rattle.std.specs.Prelude.{◌≡◌, ℕ, List, [], ◌∷◌, map}
+
+-- what contracts see of a table: its entries, and how many there may be
+pub record Table (K V : Type 0) : Type 0 where
+  pub entries : List (K × V)
+  pub limit : ℕ
 
 -- the keys of the entries, as the definitions have them
 abbrev pub keys_in : {K V S : Type 0} → (K → S) → List (K × V) → List S

@@ -1,5 +1,5 @@
 ghost use Rattle.std.specs.Prelude.{◌≡◌, ℕ, ◌+◌, ◌^◌, ◌≤◌, ◌<◌, ◌++◌, true, false, List, [], ◌∷◌, IfOk, IfNone, IfSome, IsTrue, ◌↔◌, Some, slice_get, length, if◌then◌else◌};
-ghost use Rattle.indexmap.specs.IndexMap.{index_map_len, spare, set_value_at};
+ghost use Rattle.indexmap.specs.IndexMap.{set_value_at};
 ghost use Rattle.books_spec.specs.Items.{Reading, Source};
 ghost use Rattle.books_spec.specs.Listing.{same_source, among, first_arrivals, unlisted};
 ghost use Rattle.stream_books.specs.Sources.{StandsFor, is_flow, width_of, boot_of, entered_count};
@@ -14,6 +14,7 @@ use crate::keys::SourceKey;
 use indexmap::IndexMap;
 use std::alloc::{AllocError, Global};
 use std::hash::RandomState;
+use std::marker::Model;
 use stream_books::{SampleReading, SourceRecord};
 
 /// The sources that are listed, in order of first arrival, in room that was taken at the opening.
@@ -22,7 +23,21 @@ pub struct SourceTable {
     map: IndexMap<SourceKey, SourceRecord, RandomState>,
     /// How many sources are listed at most.
     limit: u32,
-    ghost room: { limit ≤ index_map_len map + spare map },
+}
+
+impl Model for SourceTable {
+    ghost use Rattle.std.specs.Prelude.{◌+◌, ◌≤◌};
+    ghost use Rattle.indexmap.specs.IndexMap.{index_map_len, spare};
+    ghost use Rattle.collector_tables.specs.declared.keys.SourceKey.{SourceKey};
+    ghost use Rattle.stream_books.specs.declared.source.SourceRecord.{SourceRecord};
+    ghost use Rattle.collector_tables.specs.Tables.{Table};
+
+    ghost Value = { Table SourceKey SourceRecord };
+
+    ghost view = { λ t. record { entries = t.map.entries; limit = t.limit } };
+
+    // The room was taken at the opening.
+    ghost invariant = { λ t. t.limit ≤ index_map_len t.map + spare t.map };
 }
 
 impl SourceTable {
@@ -30,7 +45,7 @@ impl SourceTable {
 
     /// No source is listed; there is room for so many.
     pub fn open(alloc: Global, limit: u32, seed: RandomState) -> Result<SourceTable, AllocError>
-        ensures { IfOk result (λ t. (t.map.entries ≡ []) × (t.limit ≡ limit)) }
+        ensures { IfOk result (λ t. (t.entries ≡ []) × (t.limit ≡ limit)) }
     {
         let map = IndexMap::with_capacity_and_hasher(alloc, limit as usize, seed)?;
         Ok(SourceTable { map, limit })
@@ -38,26 +53,41 @@ impl SourceTable {
 
     /// Whether all sources that may be listed are.
     pub fn is_full(&self) -> bool
-        ensures { IsTrue result ↔ (self.now.limit ≤ length self.now.map.entries) }
+        ensures { IsTrue result ↔ (self.now.limit ≤ length self.now.entries) }
     {
         self.map.len() >= self.limit as usize
+    }
+
+    /// How many sources are listed.
+    pub fn len(&self) -> usize
+        ensures { result ≡ length self.now.entries }
+    {
+        self.map.len()
+    }
+
+    /// The source at a place, and what is kept of it; `None` exactly past the end.
+    pub fn get(&self, place: usize) -> Option<(&SourceKey, &SourceRecord)>
+        ensures some { IfSome result (λ r. slice_get self.now.entries place ≡ Some (r.0.now, r.1.now)) }
+        ensures none { IfNone result (length self.now.entries ≤ place) }
+    {
+        self.map.get_index(place)
     }
 
     /// The place of a source, if it is listed.
     pub fn place(&self, key: &SourceKey) -> Option<usize>
         ensures some { IfSome result (λ p. (k : SourceKey) × (v : SourceRecord)
-            × (slice_get self.now.map.entries p ≡ Some (k, v)) × (source_in k ≡ source_in key.now)) }
+            × (slice_get self.now.entries p ≡ Some (k, v)) × (source_in k ≡ source_in key.now)) }
         ensures none { IfNone result
-            (among same_source (keys_in source_in self.now.map.entries) (source_in key.now) ≡ false) }
+            (among same_source (keys_in source_in self.now.entries) (source_in key.now) ≡ false) }
     {
         self.map.get_index_of(key)
     }
 
     /// Lists a source behind the others, where there is room and it isn't listed yet.
     pub fn add(&mut self, key: SourceKey, source: SourceRecord)
-        requires room { length self.old.map.entries < self.old.limit }
-        requires new { among same_source (keys_in source_in self.old.map.entries) (source_in key) ≡ false }
-        ensures entries { self.new.map.entries ≡ self.old.map.entries ++ (key, source) ∷ [] }
+        requires room { length self.old.entries < self.old.limit }
+        requires new { among same_source (keys_in source_in self.old.entries) (source_in key) ≡ false }
+        ensures entries { self.new.entries ≡ self.old.entries ++ (key, source) ∷ [] }
         ensures limit { self.new.limit ≡ self.old.limit }
     {
         self.map.insert(key, source).unwrap();
@@ -65,12 +95,12 @@ impl SourceTable {
 
     /// Enters what a sample of this boot shows into the source at a place.
     pub fn enter_at(&mut self, place: usize, boot: u64, reading: SampleReading)
-        requires place { place < length self.old.map.entries }
+        requires place { place < length self.old.entries }
         requires boot_counts { 1 ≤ boot }
-        requires ready { (k : SourceKey) (was : SourceRecord) → slice_get self.old.map.entries place ≡ Some (k, was)
+        requires ready { (k : SourceKey) (was : SourceRecord) → slice_get self.old.entries place ≡ Some (k, was)
             → (boot_of was ≤ boot) × (entered_count was < 2 ^ 62) }
-        ensures now { (k : SourceKey) (was : SourceRecord) → slice_get self.old.map.entries place ≡ Some (k, was)
-            → (now : SourceRecord) × (self.new.map.entries ≡ set_value_at self.old.map.entries place now)
+        ensures now { (k : SourceKey) (was : SourceRecord) → slice_get self.old.entries place ≡ Some (k, was)
+            → (now : SourceRecord) × (self.new.entries ≡ set_value_at self.old.entries place now)
             × Enters boot (reading_in reading) was now }
         ensures limit { self.new.limit ≡ self.old.limit }
     {
@@ -85,18 +115,18 @@ impl SourceTable {
         requires width_from { 1 ≤ width }
         requires width_to { width ≤ 1024 }
         requires boot_counts { 1 ≤ boot }
-        requires ready { (p : ℕ) (k : SourceKey) (was : SourceRecord) → slice_get self.old.map.entries p ≡ Some (k, was)
+        requires ready { (p : ℕ) (k : SourceKey) (was : SourceRecord) → slice_get self.old.entries p ≡ Some (k, was)
             → source_in k ≡ source_in key → (boot_of was ≤ boot) × (entered_count was < 2 ^ 62) }
         ensures stands { (arrived : List Source) (boots_of : Source → List (List Reading))
             (current : List Reading) (closed : List (List Reading))
             → boots_of (source_in key) ≡ current ∷ closed → length closed + 1 ≡ boot
             → (among same_source (first_arrivals same_source arrived) (source_in key) ≡ false
             → AreEmpty (current ∷ closed))
-            → SourcesStand self.old.limit width self.old.map.entries arrived boots_of
-            → SourcesStand self.old.limit width self.new.map.entries (source_in key ∷ arrived)
+            → SourcesStand self.old.limit width self.old.entries arrived boots_of
+            → SourcesStand self.old.limit width self.new.entries (source_in key ∷ arrived)
             (after_reading (source_in key) (reading_in reading) boots_of) }
         ensures counted { (arrived : List Source) (boots_of : Source → List (List Reading))
-            → SourcesStand self.old.limit width self.old.map.entries arrived boots_of
+            → SourcesStand self.old.limit width self.old.entries arrived boots_of
             → unlisted same_source self.old.limit (source_in key ∷ arrived)
             ≡ unlisted same_source self.old.limit arrived + (if result then 0 else 1) }
         ensures limit { self.new.limit ≡ self.old.limit }
@@ -117,10 +147,10 @@ impl SourceTable {
         requires width_from { 1 ≤ width }
         requires width_to { width ≤ 1024 }
         requires boot_counts { 1 ≤ boot }
-        requires room { length self.old.map.entries < self.old.limit }
-        requires new { among same_source (keys_in source_in self.old.map.entries) (source_in key) ≡ false }
+        requires room { length self.old.entries < self.old.limit }
+        requires new { among same_source (keys_in source_in self.old.entries) (source_in key) ≡ false }
         ensures now { (was : SourceRecord) × (now : SourceRecord)
-            × (self.new.map.entries ≡ self.old.map.entries ++ (key, now) ∷ [])
+            × (self.new.entries ≡ self.old.entries ++ (key, now) ∷ [])
             × (is_flow was ≡ key.flow) × (width_of was ≡ width) × StandsFor was []
             × Enters boot (reading_in reading) was now }
         ensures limit { self.new.limit ≡ self.old.limit }

@@ -1,7 +1,8 @@
-ghost use Rattle.std.specs.Prelude.{◌≡◌, ℕ, ◌+◌, ◌^◌, ◌≤◌, ◌<◌, ◌++◌, false, List, [], ◌∷◌, IfOk, IfNone, IfSome, IsTrue, ◌↔◌, Some, slice_get, length};
-ghost use Rattle.indexmap.specs.IndexMap.{index_map_len, spare, set_value_at};
+ghost use Rattle.std.specs.Prelude.{◌≡◌, ℕ, ◌+◌, ◌^◌, ◌≤◌, ◌<◌, ◌++◌, true, false, List, [], ◌∷◌, IfOk, IfNone, IfSome, IsTrue, ◌↔◌, Some, slice_get, length};
+ghost use Rattle.std.specs.List.{position_or_len};
+ghost use Rattle.indexmap.specs.IndexMap.{set_value_at};
 ghost use Rattle.books_spec.specs.Items.{Datagram, Item, Got, stream_of, Limits};
-ghost use Rattle.books_spec.specs.Books.{taken_now};
+ghost use Rattle.books_spec.specs.Books.{listed_streams, stream_boots, taken_now};
 ghost use Rattle.books_spec.specs.Listing.{same_stream, among};
 ghost use Rattle.stream_books.specs.Streams.{StreamState, StandsFor, IsAt};
 ghost use Rattle.collector_tables.specs.declared.keys.StreamKey.{StreamKey};
@@ -15,6 +16,7 @@ use crate::keys::StreamKey;
 use indexmap::IndexMap;
 use std::alloc::{AllocError, Global};
 use std::hash::RandomState;
+use std::marker::Model;
 use stream_books::{StreamRecord, Taken};
 
 /// The streams that are listed, in order of first arrival, in room that was taken at the opening.
@@ -23,13 +25,27 @@ pub struct StreamTable {
     map: IndexMap<StreamKey, StreamRecord, RandomState>,
     /// How many streams are listed at most.
     limit: u32,
-    ghost room: { limit ≤ index_map_len map + spare map },
+}
+
+impl Model for StreamTable {
+    ghost use Rattle.std.specs.Prelude.{◌+◌, ◌≤◌};
+    ghost use Rattle.indexmap.specs.IndexMap.{index_map_len, spare};
+    ghost use Rattle.collector_tables.specs.declared.keys.StreamKey.{StreamKey};
+    ghost use Rattle.stream_books.specs.Streams.{StreamState};
+    ghost use Rattle.collector_tables.specs.Tables.{Table};
+
+    ghost Value = { Table StreamKey StreamState };
+
+    ghost view = { λ t. record { entries = t.map.entries; limit = t.limit } };
+
+    // The room was taken at the opening.
+    ghost invariant = { λ t. t.limit ≤ index_map_len t.map + spare t.map };
 }
 
 impl StreamTable {
     /// No stream is listed; there is room for so many.
     pub fn open(alloc: Global, limit: u32, seed: RandomState) -> Result<StreamTable, AllocError>
-        ensures { IfOk result (λ t. (t.map.entries ≡ []) × (t.limit ≡ limit)) }
+        ensures { IfOk result (λ t. (t.entries ≡ []) × (t.limit ≡ limit)) }
     {
         let map = IndexMap::with_capacity_and_hasher(alloc, limit as usize, seed)?;
         Ok(StreamTable { map, limit })
@@ -37,26 +53,63 @@ impl StreamTable {
 
     /// Whether all streams that may be listed are.
     pub fn is_full(&self) -> bool
-        ensures { IsTrue result ↔ (self.now.limit ≤ length self.now.map.entries) }
+        ensures { IsTrue result ↔ (self.now.limit ≤ length self.now.entries) }
     {
         self.map.len() >= self.limit as usize
     }
 
+    /// How many streams are listed.
+    pub fn len(&self) -> usize
+        ensures { result ≡ length self.now.entries }
+    {
+        self.map.len()
+    }
+
+    /// The stream at a place, and what is kept of it; `None` exactly past the end.
+    pub fn get(&self, place: usize) -> Option<(&StreamKey, &StreamRecord)>
+        ensures some { IfSome result (λ r. slice_get self.now.entries place ≡ Some (r.0.now, r.1.now)) }
+        ensures none { IfNone result (length self.now.entries ≤ place) }
+    {
+        self.map.get_index(place)
+    }
+
+    /// How many boots the stream had, where it is listed; else 0.
+    pub fn boots(&self, key: &StreamKey) -> u64
+        ensures { (l : Limits) (items : List Item) → StreamsStand l self.now.entries items
+            → among same_stream (listed_streams l items) (stream_in key.now) ≡ true
+            → result ≡ length (stream_boots l (stream_in key.now) items) }
+    {
+        match self.place(key) {
+            Some(place) => self.boots_at(place),
+            None => 0,
+        }
+    }
+
+    // How many boots the stream at a place had.
+    fn boots_at(&self, place: usize) -> u64
+        requires { place < length self.now.entries }
+        ensures { (k : StreamKey) (v : StreamState) → slice_get self.now.entries place ≡ Some (k, v)
+            → result ≡ v.ledger.boot }
+    {
+        self.map[place].boots()
+    }
+
     /// The place of a stream, if it is listed.
     pub fn place(&self, key: &StreamKey) -> Option<usize>
+        ensures at { IfSome result (λ p. p ≡ position_or_len (same_stream (stream_in key.now)) (keys_in stream_in self.now.entries)) }
         ensures some { IfSome result (λ p. (k : StreamKey) × (v : StreamState)
-            × (slice_get self.now.map.entries p ≡ Some (k, v)) × (stream_in k ≡ stream_in key.now)) }
+            × (slice_get self.now.entries p ≡ Some (k, v)) × (stream_in k ≡ stream_in key.now)) }
         ensures none { IfNone result
-            (among same_stream (keys_in stream_in self.now.map.entries) (stream_in key.now) ≡ false) }
+            (among same_stream (keys_in stream_in self.now.entries) (stream_in key.now) ≡ false) }
     {
         self.map.get_index_of(key)
     }
 
     /// Lists a stream behind the others, where there is room and it isn't listed yet.
     pub fn add(&mut self, key: StreamKey, stream: StreamRecord)
-        requires room { length self.old.map.entries < self.old.limit }
-        requires new { among same_stream (keys_in stream_in self.old.map.entries) (stream_in key) ≡ false }
-        ensures entries { self.new.map.entries ≡ self.old.map.entries ++ (key, stream) ∷ [] }
+        requires room { length self.old.entries < self.old.limit }
+        requires new { among same_stream (keys_in stream_in self.old.entries) (stream_in key) ≡ false }
+        ensures entries { self.new.entries ≡ self.old.entries ++ (key, stream) ∷ [] }
         ensures limit { self.new.limit ≡ self.old.limit }
     {
         self.map.insert(key, stream).unwrap();
@@ -73,11 +126,11 @@ impl StreamTable {
         uptime: u32,
         sequence: u32,
     ) -> Taken
-        requires place { place < length self.old.map.entries }
-        requires few { (k : StreamKey) (was : StreamState) → slice_get self.old.map.entries place ≡ Some (k, was)
+        requires place { place < length self.old.entries }
+        requires few { (k : StreamKey) (was : StreamState) → slice_get self.old.entries place ≡ Some (k, was)
             → was.ledger.entered + was.stale < 2 ^ 62 }
-        ensures now { (k : StreamKey) (was : StreamState) → slice_get self.old.map.entries place ≡ Some (k, was)
-            → (now : StreamState) × (self.new.map.entries ≡ set_value_at self.old.map.entries place now)
+        ensures now { (k : StreamKey) (was : StreamState) → slice_get self.old.entries place ≡ Some (k, was)
+            → (now : StreamState) × (self.new.entries ≡ set_value_at self.old.entries place now)
             × Takes slack arrival uptime sequence was now result }
         ensures limit { self.new.limit ≡ self.old.limit }
     {
@@ -99,18 +152,18 @@ impl StreamTable {
     ) -> Taken
         requires width_from { 1 ≤ width }
         requires width_to { width ≤ 1024 }
-        requires few { (p : ℕ) (k : StreamKey) (was : StreamState) → slice_get self.old.map.entries p ≡ Some (k, was)
+        requires few { (p : ℕ) (k : StreamKey) (was : StreamState) → slice_get self.old.entries p ≡ Some (k, was)
             → was.ledger.entered + was.stale < 2 ^ 62 }
         ensures stands { (l : Limits) (items : List Item) (d : Datagram) → l.streams ≡ self.old.limit
             → l.datagram_width ≡ width → l.boot_slack ≡ slack → stream_in key ≡ stream_of d
-            → IsAt d arrival uptime sequence → StreamsStand l self.old.map.entries items
-            → StreamsStand l self.new.map.entries (Got d ∷ items) }
+            → IsAt d arrival uptime sequence → StreamsStand l self.old.entries items
+            → StreamsStand l self.new.entries (Got d ∷ items) }
         ensures answer { (l : Limits) (items : List Item) (d : Datagram) → l.streams ≡ self.old.limit
             → l.datagram_width ≡ width → l.boot_slack ≡ slack → stream_in key ≡ stream_of d
-            → IsAt d arrival uptime sequence → StreamsStand l self.old.map.entries items
+            → IsAt d arrival uptime sequence → StreamsStand l self.old.entries items
             → taken_in_books result ≡ taken_now l items (Got d) }
-        ensures counted { (n : ℕ) → Each stream_in (HasTaken n) self.old.map.entries
-            → Each stream_in (HasTaken (n + 1)) self.new.map.entries }
+        ensures counted { (n : ℕ) → Each stream_in (HasTaken n) self.old.entries
+            → Each stream_in (HasTaken (n + 1)) self.new.entries }
         ensures limit { self.new.limit ≡ self.old.limit }
     {
         if let Some(place) = self.place(&key) {
@@ -134,10 +187,10 @@ impl StreamTable {
     ) -> Taken
         requires width_from { 1 ≤ width }
         requires width_to { width ≤ 1024 }
-        requires room { length self.old.map.entries < self.old.limit }
-        requires new { among same_stream (keys_in stream_in self.old.map.entries) (stream_in key) ≡ false }
+        requires room { length self.old.entries < self.old.limit }
+        requires new { among same_stream (keys_in stream_in self.old.entries) (stream_in key) ≡ false }
         ensures now { (was : StreamState) × (now : StreamState)
-            × (self.new.map.entries ≡ self.old.map.entries ++ (key, now) ∷ [])
+            × (self.new.entries ≡ self.old.entries ++ (key, now) ∷ [])
             × (was.ledger.width ≡ width) × ((slack : ℕ) → StandsFor slack was [])
             × Takes slack arrival uptime sequence was now result × (now.ledger.entered + now.stale ≡ 1) }
         ensures limit { self.new.limit ≡ self.old.limit }

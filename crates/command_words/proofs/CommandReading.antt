@@ -26,20 +26,23 @@ name_read name.Check = refl
 read_name : (word : Text) (command : CommandName) → name_of word ≡ Some command → word ≡ word_of command
 read_name word command e = replay (bytes_eq word (word_of name.Replay)) refl e
   where
-    check : (b : Bool) → bytes_eq word (word_of name.Check) ≡ b → (if b then Some name.Check else None) ≡ Some command
+    check : (b : Bool) → bytes_eq word (word_of name.Check) ≡ b
+        → (if b then Some name.Check else None) ≡ Some command
         → word ≡ word_of command
     check true is e = (bytes_eq-Decides word (word_of name.Check)).0 is ∙ ap word_of (same_Some _ _ e)
     check false is e = cc
 
     show : (b : Bool) → bytes_eq word (word_of name.Show) ≡ b
-        → (if b then Some name.Show else (if bytes_eq word (word_of name.Check) then Some name.Check else None)) ≡ Some command
+        → (if b then Some name.Show else (if bytes_eq word (word_of name.Check) then Some name.Check
+        else None)) ≡ Some command
         → word ≡ word_of command
     show true is e = (bytes_eq-Decides word (word_of name.Show)).0 is ∙ ap word_of (same_Some _ _ e)
     show false is e = check (bytes_eq word (word_of name.Check)) refl e
 
     replay : (b : Bool) → bytes_eq word (word_of name.Replay) ≡ b
         → (if b then Some name.Replay else (if bytes_eq word (word_of name.Show) then Some name.Show
-        else (if bytes_eq word (word_of name.Check) then Some name.Check else None))) ≡ Some command
+        else (if bytes_eq word (word_of name.Check) then Some name.Check
+        else None))) ≡ Some command
         → word ≡ word_of command
     replay true is e = (bytes_eq-Decides word (word_of name.Replay)).0 is ∙ ap word_of (same_Some _ _ e)
     replay false is e = show (bytes_eq word (word_of name.Show)) refl e

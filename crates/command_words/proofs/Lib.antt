@@ -9,3 +9,6 @@ pub mod ClapWalk
 pub mod ClapTakes
 pub mod Asked
 pub mod CommandReading
+pub mod Texts
+pub mod Numerals
+pub mod Ranges

@@ -1,15 +1,17 @@
 -- The commands: their names, their rules, and what lawful words ask for.
-use Rattle.std.specs.Prelude.{◌≡◌, List, [], ◌∷◌, Option, Some, None, codes, if◌then◌else◌, nat_lt, option_and_then}
+use Rattle.std.specs.Prelude.{◌≡◌, List, [], ◌∷◌, Option, Some, None, codes, if◌then◌else◌, nat_lt, option_and_then, option_map}
 use Rattle.std.specs.Str.{bytes_eq}
 use Rattle.wire_spec.specs.declared.pad.Pad.{Pad}
 use Rattle.wire_spec.specs.declared.pad.Pad.TheVariants.{Any, Zero}
-use Rattle.command_words.specs.declared.arguments.Form.TheVariants.{Flag}
+use Rattle.command_words.specs.declared.arguments.Form.TheVariants.{Flag, Optional}
 use Rattle.command_words.specs.declared.arguments.CommandName.{CommandName}
 use Rattle.command_words.specs.declared.arguments.CommandName.TheVariants as name
 use Rattle.command_words.specs.declared.command.Command.{Command}
 use Rattle.command_words.specs.declared.command.Command.TheVariants.{Replay, Show, Check}
 use Rattle.command_words.specs.Rules.{Text, Rule}
-use Rattle.command_words.specs.Pieces.{Piece, AreLawful, count_of, spelling}
+use Rattle.collector_views.specs.declared.limits.Limits.{Limits}
+use Rattle.command_words.specs.Pieces.{Piece, AreLawful, count_of, spelling, text_of}
+use Rattle.command_words.specs.Limits.{limits_asked, texts_by}
 use Rattle.command_words.specs.Reading.{lawful_pieces}
 
 -- a command's first word
@@ -26,7 +28,13 @@ name_of word =
 
 -- a command's options and flags
 abbrev pub rules_of : CommandName → List Rule
-rules_of name.Replay = []
+rules_of name.Replay =
+    record { name = codes "streams"; form = Optional }
+    ∷ record { name = codes "sources"; form = Optional }
+    ∷ record { name = codes "datagram-width"; form = Optional }
+    ∷ record { name = codes "sample-width"; form = Optional }
+    ∷ record { name = codes "boot-slack"; form = Optional }
+    ∷ []
 rules_of name.Show = []
 rules_of name.Check = record { name = codes "zero"; form = Flag } ∷ []
 
@@ -34,9 +42,13 @@ rules_of name.Check = record { name = codes "zero"; form = Flag } ∷ []
 abbrev pub pad_of : List Piece → Pad
 pad_of pieces = if nat_lt 0 (count_of (codes "zero") pieces) then Zero else Any
 
--- the command of that name with the values of its pieces
+-- the limits of its options
+abbrev pub limits_of : List Piece → Option Limits
+limits_of pieces = limits_asked (texts_by (λ name. text_of name pieces))
+
+-- the command of that name with the values of its pieces, or None where one of them is out of its range
 abbrev pub command_with : CommandName → List Piece → Option Command
-command_with name.Replay pieces = Some Replay
+command_with name.Replay pieces = option_map Replay (limits_of pieces)
 command_with name.Show pieces = Some Show
 command_with name.Check pieces = Some (Check (pad_of pieces))
 

@@ -2,6 +2,8 @@ pub mod Rules
 pub mod Pieces
 pub mod Reading
 pub mod Arguments
+pub mod Numbers
+pub mod Limits
 pub mod Commands
 pub mod Meanings
 pub mod Matching

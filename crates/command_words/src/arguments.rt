@@ -31,6 +31,30 @@ pub enum CommandName {
 
 static NONE: [Argument; 0] = [];
 
+// The options that set the limits of a collector.
+static LIMITS: [Argument; 5] = [
+    Argument {
+        name: "streams",
+        form: Form::Optional,
+    },
+    Argument {
+        name: "sources",
+        form: Form::Optional,
+    },
+    Argument {
+        name: "datagram-width",
+        form: Form::Optional,
+    },
+    Argument {
+        name: "sample-width",
+        form: Form::Optional,
+    },
+    Argument {
+        name: "boot-slack",
+        form: Form::Optional,
+    },
+];
+
 static CHECK: [Argument; 1] = [Argument {
     name: "zero",
     form: Form::Flag,
@@ -64,8 +88,9 @@ impl CommandName {
         ensures { rules_in result.now ≡ rules_of self }
     {
         match self {
-            CommandName::Replay | CommandName::Show => &NONE,
+            CommandName::Replay => &LIMITS,
             CommandName::Check => &CHECK,
+            CommandName::Show => &NONE,
         }
     }
 }

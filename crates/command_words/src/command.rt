@@ -1,20 +1,24 @@
-ghost use Rattle.std.specs.Prelude.{◌≡◌, ◌↔◌, Bool, codes, if◌then◌else◌, IfOk, None, Some, Err, map, string_bytes};
+ghost use Rattle.std.specs.Prelude.{◌≡◌, ◌↔◌, Bool, List, codes, if◌then◌else◌, is_some, IfOk, None, Some, Err, map, string_bytes};
 ghost use Rattle.clap.specs.Words.{found_of, kind_of, one_text};
-ghost use Rattle.command_words.specs.Commands.{command_named, command_of};
+ghost use Rattle.command_words.specs.Commands.{command_named, command_of, command_with, rules_of};
+ghost use Rattle.command_words.specs.Matching.{Holds};
+ghost use Rattle.command_words.specs.Pieces.{Piece};
 
 use crate::arguments::CommandName;
+use crate::limits::LimitTexts;
 use crate::matching::matches_in;
 use crate::reading::are_lawful;
 use clap::error::ErrorKind;
 use clap::{ArgMatches, Error};
+use collector_views::Limits;
 use std::alloc::Global;
 use wire_spec::Pad;
 
 /// What the words of the command line ask for.
 #[derive(Clone, Copy, Debug, PartialEq, Eq)]
 pub enum Command {
-    /// Reads a capture and reports its streams.
-    Replay,
+    /// Reads a capture and reports its streams, under the limits of a collector.
+    Replay { limits: Limits },
     /// Reads a capture and shows each of its entries.
     Show,
     /// Reads a capture and names its faulty entries, under a reading of padding.
@@ -52,23 +56,45 @@ fn pad_in(matches: &ArgMatches) -> Pad
     }
 }
 
+// Whether the words ask for the command of this name. This takes no memory.
+fn asks(name: CommandName, words: &[String]) -> bool
+    ensures { result ≡ is_some (command_named (map string_bytes words.now) name) }
+{
+    let arguments = name.arguments();
+    are_lawful(arguments, words)
+        && match name {
+            CommandName::Replay => LimitTexts::in_words(arguments, words).limits().is_some(),
+            CommandName::Show | CommandName::Check => true,
+        }
+}
+
+// The command of this name, from what `clap` has read.
+fn command_in(name: CommandName, matches: &ArgMatches) -> Option<Command>
+    ensures { (pieces : List Piece) → Holds (found_of matches.now) (rules_of name) pieces
+        → result ≡ command_with name pieces }
+{
+    match name {
+        CommandName::Replay => {
+            let limits = LimitTexts::in_matches(matches).limits()?;
+            Some(Command::Replay { limits })
+        }
+        CommandName::Show => Some(Command::Show),
+        CommandName::Check => Some(Command::Check {
+            pad: pad_in(matches),
+        }),
+    }
+}
+
 // The command of this name, from the words after it.
 fn read_command(alloc: Global, name: CommandName, words: &[String]) -> Result<Command, WordsRefusal>
     ensures usage { (result ≡ Err WordsRefusal.Usage) ↔ (command_named (map string_bytes words.now) name ≡ None) }
     ensures command { IfOk result (λ c. command_named (map string_bytes words.now) name ≡ Some c) }
 {
-    let arguments = name.arguments();
-    if !are_lawful(arguments, words) {
+    if !asks(name, words) {
         return Err(WordsRefusal::Usage);
     }
-    match matches_in(alloc, name.word(), arguments, words) {
-        Ok(matches) => Ok(match name {
-            CommandName::Replay => Command::Replay,
-            CommandName::Show => Command::Show,
-            CommandName::Check => Command::Check {
-                pad: pad_in(&matches),
-            },
-        }),
+    match matches_in(alloc, name.word(), name.arguments(), words) {
+        Ok(matches) => command_in(name, &matches).ok_or(WordsRefusal::Usage),
         Err(error) => Err(refusal_of(&error)),
     }
 }

@@ -1,5 +1,6 @@
 // Worked examples: words and their readings.
 ghost use Rattle.std.specs.Prelude.{◌≡◌, [], ◌∷◌, None, Some, codes};
+ghost use Rattle.collector_views.specs.Limits.{usual_limits};
 ghost use Rattle.command_words.specs.Commands.{command_of};
 ghost use Rattle.command_words.specs.Examples.{example_rules};
 ghost use Rattle.command_words.specs.Pieces.{alone, apart, joined};
@@ -10,7 +11,7 @@ use wire_spec::Pad;
 
 /// The words of the commands.
 pub fn words_of_commands()
-    ensures replay { command_of (codes "replay" ∷ []) ≡ Some Command.Replay }
+    ensures replay { command_of (codes "replay" ∷ []) ≡ Some (Command.Replay usual_limits) }
     ensures show { command_of (codes "show" ∷ []) ≡ Some Command.Show }
     ensures check { command_of (codes "check" ∷ []) ≡ Some (Command.Check Pad.Any) }
     ensures check_zero { command_of (codes "check" ∷ codes "--zero" ∷ []) ≡ Some (Command.Check Pad.Zero) }
@@ -27,6 +28,67 @@ pub fn words_of_commands()
     ensures flag_with_text { command_of (codes "check" ∷ codes "--zero=1" ∷ []) ≡ None }
     ensures one_letter { command_of (codes "check" ∷ codes "-z" ∷ []) ≡ None }
     ensures help { command_of (codes "check" ∷ codes "--help" ∷ []) ≡ None }
+{}
+
+/// The limits of `replay`: each in its range, the usual one where it isn't given.
+pub fn words_of_limits()
+    ensures joined { command_of (codes "replay" ∷ codes "--streams=2" ∷ [])
+        ≡ Some (Command.Replay (record usual_limits { streams = 2 })) }
+    ensures apart { command_of (codes "replay" ∷ codes "--streams" ∷ codes "2" ∷ [])
+        ≡ Some (Command.Replay (record usual_limits { streams = 2 })) }
+    ensures split { command_of (codes "replay" ∷ codes "--boot-slack=6" ∷ codes "00" ∷ []) ≡ None }
+    ensures any_order { command_of (codes "replay" ∷ codes "--boot-slack=105" ∷ codes "--sample-width" ∷ codes "4"
+        ∷ codes "--datagram-width=3" ∷ codes "--sources" ∷ codes "20" ∷ codes "--streams=10" ∷ [])
+        ≡ Some (Command.Replay (record {
+          streams = 10;
+          sources = 20;
+          datagram_width = 3;
+          sample_width = 4;
+          boot_slack = 105;
+        })) }
+    ensures least { command_of (codes "replay" ∷ codes "--streams=1" ∷ codes "--sources=1"
+        ∷ codes "--datagram-width=1" ∷ codes "--sample-width=1" ∷ codes "--boot-slack=100" ∷ [])
+        ≡ Some (Command.Replay (record {
+          streams = 1;
+          sources = 1;
+          datagram_width = 1;
+          sample_width = 1;
+          boot_slack = 100;
+        })) }
+    ensures most { command_of (codes "replay" ∷ codes "--streams=4096" ∷ codes "--sources=65536"
+        ∷ codes "--datagram-width=1024" ∷ codes "--sample-width=1024" ∷ codes "--boot-slack=1073741824" ∷ [])
+        ≡ Some (Command.Replay (record {
+          streams = 4096;
+          sources = 65536;
+          datagram_width = 1024;
+          sample_width = 1024;
+          boot_slack = 1073741824;
+        })) }
+
+    ensures no_streams { command_of (codes "replay" ∷ codes "--streams" ∷ codes "0" ∷ []) ≡ None }
+    ensures many_streams { command_of (codes "replay" ∷ codes "--streams=4097" ∷ []) ≡ None }
+    ensures no_sources { command_of (codes "replay" ∷ codes "--sources=0" ∷ []) ≡ None }
+    ensures many_sources { command_of (codes "replay" ∷ codes "--sources" ∷ codes "65537" ∷ []) ≡ None }
+    ensures no_width { command_of (codes "replay" ∷ codes "--datagram-width=0" ∷ []) ≡ None }
+    ensures wide { command_of (codes "replay" ∷ codes "--datagram-width=1025" ∷ []) ≡ None }
+    ensures no_sample_width { command_of (codes "replay" ∷ codes "--sample-width=0" ∷ []) ≡ None }
+    ensures wide_samples { command_of (codes "replay" ∷ codes "--sample-width=1025" ∷ []) ≡ None }
+    ensures short_slack { command_of (codes "replay" ∷ codes "--boot-slack" ∷ codes "99" ∷ []) ≡ None }
+    ensures long_slack { command_of (codes "replay" ∷ codes "--boot-slack=1073741825" ∷ []) ≡ None }
+
+    ensures leading_zero { command_of (codes "replay" ∷ codes "--streams=02" ∷ []) ≡ None }
+    ensures plus { command_of (codes "replay" ∷ codes "--streams=+5" ∷ []) ≡ None }
+    ensures minus { command_of (codes "replay" ∷ codes "--streams=-5" ∷ []) ≡ None }
+    ensures space { command_of (codes "replay" ∷ codes "--streams= 5" ∷ []) ≡ None }
+    ensures letters { command_of (codes "replay" ∷ codes "--streams=5x" ∷ []) ≡ None }
+    ensures empty { command_of (codes "replay" ∷ codes "--streams=" ∷ []) ≡ None }
+    ensures empty_word { command_of (codes "replay" ∷ codes "--streams" ∷ [] ∷ []) ≡ None }
+    ensures no_text { command_of (codes "replay" ∷ codes "--streams" ∷ []) ≡ None }
+    ensures too_long { command_of (codes "replay" ∷ codes "--streams=4294967298" ∷ []) ≡ None }
+    ensures twice { command_of (codes "replay" ∷ codes "--streams=2" ∷ codes "--streams=2" ∷ []) ≡ None }
+    ensures one_name { command_of (codes "replay" ∷ codes "--stream=2" ∷ []) ≡ None }
+    ensures under_line { command_of (codes "replay" ∷ codes "--datagram_width=2" ∷ []) ≡ None }
+    ensures of_another { command_of (codes "show" ∷ codes "--streams=2" ∷ []) ≡ None }
 {}
 
 /// Options and flags in any order, each once, and those that aren't lawful.

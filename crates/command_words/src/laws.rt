@@ -1,10 +1,13 @@
 // What holds of the reading of words. Each law is the contract of a function with nothing to do.
-ghost use Rattle.std.specs.Prelude.{◌≡◌, ◌↔◌, ℕ, List, Some, IsTrue};
+ghost use Rattle.std.specs.Prelude.{◌≡◌, ◌↔◌, ◌<◌, ◌^◌, ℕ, List, Some, IsTrue, decimal};
+ghost use Rattle.collector_views.specs.declared.limits.Limits.{Limits};
+ghost use Rattle.collector_views.specs.Limits.{AreLawful as AreWithin};
 ghost use Rattle.command_words.specs.declared.arguments.CommandName.{CommandName};
 ghost use Rattle.command_words.specs.declared.command.Command.{Command};
 ghost use Rattle.command_words.specs.Rules.{Rule};
 ghost use Rattle.command_words.specs.Pieces.{Piece, AreLawful, Spell, are_rules};
 ghost use Rattle.command_words.specs.Reading.{lawful_pieces};
+ghost use Rattle.command_words.specs.Numbers.{number_in};
 ghost use Rattle.command_words.specs.Commands.{Asks, command_of, rules_of};
 
 /// The reading of words gives exactly the lawful pieces that spell them, and no other lawful pieces do.
@@ -24,4 +27,15 @@ pub fn commands_are_spelled()
         → (command_of words ≡ Some command) ↔ ((pieces : List Piece) × Asks words pieces command) }
     ensures one { (words : List (List ℕ)) (pieces others : List Piece) (command other : Command)
         → Asks words pieces command → Asks words others other → (pieces ≡ others) × (command ≡ other) }
+{}
+
+/// A text writes a number exactly where it is that number in decimal.
+pub fn numbers_are_decimal()
+    ensures { (text : List ℕ) (n : ℕ) → (number_in text ≡ Some n) ↔ ((n < 2 ^ 32) × (text ≡ decimal n)) }
+{}
+
+/// Words that ask for limits ask for limits that a collector can have: each is within its range.
+pub fn limits_are_lawful()
+    ensures { (words : List (List ℕ)) (limits : Limits) → command_of words ≡ Some (Command.Replay limits)
+        → AreWithin limits }
 {}

@@ -1,21 +1,26 @@
 //! The words of the command line, and the command that they ask for.
 //!
-//! Whether words are lawful is decided by the definitions of `specs/`, before any memory is taken. Lawful words are
-//! then read by `clap`, and the values of a command come from its matches.
+//! Whether words are lawful, and their numbers within their ranges, is decided by the definitions of `specs/`, before
+//! any memory is taken. Lawful words are then read by `clap`, and the values of a command come from its matches.
 #![tactic(auto)]
 
 mod arguments;
 mod command;
 mod examples;
 mod laws;
+mod limits;
 mod matching;
 mod meaning;
+mod number;
 mod reading;
 
 pub use arguments::{CommandName, Form};
+pub use collector_views::Limits;
 pub use command::{Command, WordsRefusal, read_words};
-pub use examples::{words_of_commands, words_with_options};
-pub use laws::{commands_are_spelled, lawful_words_have_one_reading};
+pub use examples::{words_of_commands, words_of_limits, words_with_options};
+pub use laws::{
+    commands_are_spelled, lawful_words_have_one_reading, limits_are_lawful, numbers_are_decimal,
+};
 
 #[cfg(test)]
 mod tests;

@@ -2,7 +2,7 @@
 ghost use Rattle.std.specs.Prelude.{◌≡◌, ℕ, List, Some, IfOk, IfErr, IsTrue, false, is_some, map, string_bytes};
 ghost use Rattle.clap.specs.Words.{app_of, first_value, found_of, kind_of, one_text, rule_of};
 ghost use Rattle.command_words.specs.Arguments.{rule_in, rules_in};
-ghost use Rattle.command_words.specs.Matching.{app_with, clap_rule};
+ghost use Rattle.command_words.specs.Matching.{Holds, app_with, clap_rule};
 ghost use Rattle.command_words.specs.Pieces.{Piece, are_rules, flag_text, text_of};
 ghost use Rattle.command_words.specs.Reading.{lawful_pieces};
 ghost use Rattle.command_words.specs.Rules.{has_flag, has_option};
@@ -51,14 +51,9 @@ pub(crate) fn matches_in<'a>(
     requires rules { IsTrue (are_rules (rules_in arguments.now)) }
     requires lawful { IsTrue (is_some (lawful_pieces (rules_in arguments.now) (map string_bytes words.now))) }
     ensures memory { IfErr result (λ error. kind_of error ≡ ErrorKind.OutOfMemory) }
-    ensures flags { IfOk result (λ matches. (flag : List ℕ) (pieces : List Piece)
-        → IsTrue (has_flag (rules_in arguments.now) flag)
+    ensures matches { IfOk result (λ matches. (pieces : List Piece)
         → lawful_pieces (rules_in arguments.now) (map string_bytes words.entry.now) ≡ Some pieces
-        → one_text (found_of matches) flag ≡ Some (flag_text flag pieces)) }
-    ensures options { IfOk result (λ matches. (option : List ℕ) (pieces : List Piece)
-        → IsTrue (has_option (rules_in arguments.now) option)
-        → lawful_pieces (rules_in arguments.now) (map string_bytes words.entry.now) ≡ Some pieces
-        → first_value (found_of matches) option ≡ text_of option pieces) }
+        → Holds (found_of matches) (rules_in arguments.now) pieces) }
 {
     clap_command(alloc, name, arguments)?.try_get_matches_from(words)
 }

@@ -20,13 +20,22 @@ pub(crate) enum Piece<'a> {
 
 impl<'a> Piece<'a> {
     ghost use Rattle.command_words.specs.Meanings.{piece_of};
-    ghost use Rattle.command_words.specs.Pieces.{name_in};
+    ghost use Rattle.command_words.specs.Pieces.{name_in, text_in};
 
     pub(crate) fn name(self) -> &'a str
         ensures { result.now ≡ name_in (piece_of self.entry) }
     {
         match self {
             Piece::Joined(name, _) | Piece::Apart(name, _) | Piece::Alone(name) => name,
+        }
+    }
+
+    pub(crate) fn text(self) -> Option<&'a str>
+        ensures { option_map (λ t. t.now) result ≡ text_in (piece_of self.entry) }
+    {
+        match self {
+            Piece::Joined(_, text) | Piece::Apart(_, text) => Some(text),
+            Piece::Alone(_) => None,
         }
     }
 }

@@ -1,9 +1,9 @@
 // Whether words are lawful under the rules of a command. Nothing here takes memory.
-ghost use Rattle.std.specs.Prelude.{◌≡◌, false, is_some, map, option_map, string_bytes};
+ghost use Rattle.std.specs.Prelude.{◌≡◌, List, Some, false, is_some, map, option_map, string_bytes};
 ghost use Rattle.std.specs.List.{list_all};
 ghost use Rattle.std.specs.Option.{option_map_or};
 ghost use Rattle.command_words.specs.Arguments.{rule_in, rules_in};
-ghost use Rattle.command_words.specs.Pieces.{count_of};
+ghost use Rattle.command_words.specs.Pieces.{Piece as ReadPiece, count_of, text_of};
 ghost use Rattle.command_words.specs.Reading.{is_counted, is_count, lawful_pieces, pieces_from};
 
 use crate::arguments::{Argument, Form};
@@ -32,6 +32,28 @@ fn count(arguments: &[Argument], words: &[String], name: &str) -> Option<usize>
         Some(_) => None,
         None => Some(count),
     }
+}
+
+// The text of the option, where the words are made of pieces and it is among them.
+pub(crate) fn text<'a>(arguments: &[Argument], words: &'a [String], name: &str) -> Option<&'a str>
+    ensures { (pieces : List ReadPiece)
+        → pieces_from (rules_in arguments.now) None (map string_bytes words.entry.now) ≡ Some pieces
+        → option_map (λ t. t.now) result ≡ text_of name.now pieces }
+{
+    let mut waiting = None;
+    for word in words {
+        match read_word(arguments, waiting, word.as_str()) {
+            Meaning::Whole(piece) => {
+                waiting = None;
+                if piece.name() == name {
+                    return piece.text();
+                }
+            }
+            Meaning::Opens(option) => waiting = Some(option),
+            Meaning::Nothing => return None,
+        }
+    }
+    None
 }
 
 fn may_stand(form: Form, count: usize) -> bool

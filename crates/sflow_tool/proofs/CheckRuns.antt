@@ -62,7 +62,7 @@ module _ (pad : Pad) (left left' a b d : Option (List ℕ)) (page held : List �
         let t = told input are told_is in
         record {
           entries = t.entries;
-          reads = record { taken = tt; ends = is_read input t true is };
+          reads = is_read input t true is;
           taken = all_written input t all;
         };
     at_end = λ e. at_end;
@@ -79,7 +79,7 @@ module _ (pad : Pad) (left left' a b d : Option (List ℕ)) (page held : List �
         let t = told input are told_is in
         record {
           entries = t.entries;
-          reads = record { taken = tt; ends = is_read input t false is };
+          reads = is_read input t false is;
           taken = all_written input t all;
         };
     at_end = λ e. at_end;
@@ -95,8 +95,8 @@ module _ (pad : Pad) (left left' a b d : Option (List ℕ)) (page held : List �
   some_reads : (found : Bool) (input : List ℕ) (t : WroteAll (check_line pad) (is_faulty pad) input
       (record { taken = a; taken' = b; held = page; held' = held }) counts) → nat_lt 0 counts.marked ≡ found
       → Reads (Check pad) input t.entries (named found)
-  some_reads true input t is = record { taken = tt; ends = is_read input t true is }
-  some_reads false input t is = record { taken = tt; ends = is_read input t false is }
+  some_reads true input t is = is_read input t true is
+  some_reads false input t is = is_read input t false is
 
   text_of : (found : Bool) (entries : List Entry) → text_at (Check pad) entries (named found) ≡ check_text pad entries
   text_of true entries = refl

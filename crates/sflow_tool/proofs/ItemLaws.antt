@@ -8,7 +8,7 @@ use Rattle.wire_spec.specs.Shapes.{Tree, Trees}
 use Rattle.wire_spec.specs.Whole.{FailsWhole, SpellsWhole, whole_reading}
 use Rattle.wire_spec.proofs.OneReading.{whole_bad, whole_refused, whole_taken}
 use Rattle.datagram_core.specs.Tables.{datagram_read}
-use Rattle.sflow_tool.specs.Items.{ItemView, sound, malformed, address_in, head_in, item_from, item_of}
+use Rattle.sflow_tool.specs.Items.{sound, malformed, address_in, head_in, item_from, item_of}
 
 address_again : (a : AgentAddress) → address_in (address_tree a) ≡ a
 address_again unknown = refl

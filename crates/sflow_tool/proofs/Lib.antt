@@ -1,9 +1,7 @@
 pub mod Reports
 pub mod Walked
-pub mod Streams
 pub mod Ends
-pub mod Distinct
-pub mod Counted
+pub mod Collecting
 pub mod WriterRuns
 pub mod CheckRuns
 pub mod ReplayRuns

@@ -1,23 +1,19 @@
 -- An input makes a run of a command end in one way.
 use Rattle.std.proofs.Common.{◌≡◌, ℕ, ◌+◌, ◌<◌, ◌≤◌, ◌^◌, Bool, true, false, if◌then◌else◌, inl, inr, List, [], ◌∷◌, ◌++◌, length, flat_map, All, Err, refl, sym, ap, subst, ◌∙◌, append_assoc, append-nil, arith, length-append}
 use Rattle.std.proofs.lemmas.List.{append_cancel_left}
-use Rattle.std.proofs.lemmas.List.Elements.{All-append, All-head, All-nil, All-push, All-tail}
+use Rattle.std.proofs.lemmas.List.Elements.{All-head, All-tail}
 use Rattle.wire_spec.specs.declared.input_kind.InputKind.{InputKind}
-use Rattle.wire_spec.specs.declared.input_kind.InputKind.TheVariants.{Unbuilt}
 use Rattle.wire_spec.specs.Bytes.{BeginsWith}
 use Rattle.wire_spec.specs.Captures.{Entry, IsEntry, Capture, CaptureFault, CaptureThen, entry_bytes, capture_header, capture_bytes, CaptureOutcome}
 use Rattle.wire_spec.specs.CaptureReading.{Front, Stops, Holds, Breaks, front_of}
 use Rattle.wire_spec.proofs.CaptureFrontsBack.{front_back}
 use Rattle.wire_spec.proofs.CaptureOutcomes.{capture_bytes_are, outcome_back}
-use Rattle.wire_spec.proofs.CaptureWalks.{capture_bytes-push}
 use Rattle.std.proofs.lemmas.Bool.{cases_lt}
 use Rattle.sflow_io.specs.CaptureSteps.{FaultBehind, GoesOn}
 use Rattle.command_words.specs.declared.command.Command.{Command}
-use Rattle.command_words.specs.declared.command.Command.TheVariants.{Replay, Show, Check}
 use Rattle.sflow_tool.specs.declared.status.Status.{Status}
 use Rattle.sflow_tool.specs.declared.status.Status.TheVariants.{Done, Found, Usage, ReadFault, WriteFault, BadInput, Memory, LinkFault, Spent}
-use Rattle.sflow_tool.specs.Outputs.{Breaks as OutputBreaks, faulty, unbuilt, Decides, IsRead, IsUnbuilt, Takes, finds}
-use Rattle.sflow_tool.proofs.Distinct.{distinct_front}
+use Rattle.sflow_tool.specs.Outputs.{Decides, IsRead, finds}
 
 -- ---- two walks over the same bytes
 
@@ -100,10 +96,10 @@ walk_of_all es bytes h =
 
 -- ---- where a run stands when its reading has ended
 
--- what the front behind the entries says, where there are fewer than 2^48 of them
+-- what the front behind the entries says, where there are fewer than 2^48 of them; no reading ends before an entry
 abbrev by_front : Command → List Entry → Front → Status
 by_front c es Stops = if finds c es then Found else Done
-by_front c es (Holds e more) = BadInput (length (capture_bytes es)) Unbuilt
+by_front c es (Holds e more) = ReadFault
 by_front c es (Breaks within kind) = BadInput (length (capture_bytes es) + within) kind
 
 -- why reading ended behind these entries, where this is left
@@ -111,15 +107,13 @@ data Halts (c : Command) (es : List Entry) (r : List ℕ) (status : Status) : Ty
   at_end : r ≡ [] → status ≡ by_front c es Stops → Halts c es r status
   broken : (within : ℕ) (kind : InputKind) → front_of r ≡ Breaks within kind → length es < 2 ^ 48
       → status ≡ by_front c es (Breaks within kind) → Halts c es r status
-  refused : (e : Entry) (more : List ℕ) → front_of r ≡ Holds e more → ¬ (Takes c (es ++ e ∷ [])) → length es < 2 ^ 48
-      → status ≡ by_front c es (Holds e more) → Halts c es r status
   goes_on : 0 < length r → length es ≡ 2 ^ 48 → status ≡ Spent → Halts c es r status
 
 -- the input has no header, or it begins with these entries
 data Halted (c : Command) (input : List ℕ) (es : List Entry) (status : Status) : Type 0 where
   headless : ¬ (BeginsWith input (capture_header 1)) → (fault : ℕ × InputKind) → CaptureFault input fault.0 fault.1
       → status ≡ BadInput fault.0 fault.1 → Halted c input es status
-  behind : (r : List ℕ) → CaptureThen es r input → Takes c es → length es ≤ 2 ^ 48 → Halts c es r status
+  behind : (r : List ℕ) → CaptureThen es r input → length es ≤ 2 ^ 48 → Halts c es r status
       → Halted c input es status
 
 -- ---- a further entry doesn't stand there
@@ -128,31 +122,20 @@ nothing_is : front_of [] ≡ Stops
 nothing_is = front_back [] Stops refl
 
 no_further : (c : Command) (es : List Entry) (r : List ℕ) (status : Status) (e : Entry) (mid : List ℕ)
-    → Halts c es r status → front_of r ≡ Holds e mid → Takes c (es ++ e ∷ []) → length es < 2 ^ 48 → ⊥
-no_further c es r status e mid (at_end none is) front takes few =
+    → Halts c es r status → front_of r ≡ Holds e mid → length es < 2 ^ 48 → ⊥
+no_further c es r status e mid (at_end none is) front few =
     let both : Stops ≡ Holds e mid = sym nothing_is ∙ ap front_of (sym none) ∙ front in
     absurd cc
-no_further c es r status e mid (broken within kind at few' is) front takes few =
+no_further c es r status e mid (broken within kind at few' is) front few =
     let both : Breaks within kind ≡ Holds e mid = sym at ∙ front in
     absurd cc
-no_further c es r status e mid (refused f more at never few' is) front takes few =
-    let same_e = same_entry (front_of r) f e more mid at front in
-    never (subst (λ (x : Entry). Takes c (es ++ x ∷ [])) (sym same_e.0) takes)
-no_further c es r status e mid (goes_on some number is) front takes few = omega arith
-
-takes_front : (c : Command) (es more : List Entry) → Takes c (es ++ more) → Takes c es
-takes_front Replay es more takes = distinct_front es more takes
-takes_front Show es more takes = tt
-takes_front (Check pad) es more takes = tt
+no_further c es r status e mid (goes_on some number is) front few = omega arith
 
 no_longer : (c : Command) (es fs : List Entry) (r : List ℕ) (status : Status) (e : Entry) (more : List Entry)
-    (mid : List ℕ) → fs ≡ es ++ e ∷ more → front_of r ≡ Holds e mid → Halts c es r status → Takes c fs
+    (mid : List ℕ) → fs ≡ es ++ e ∷ more → front_of r ≡ Holds e mid → Halts c es r status
     → length fs ≤ 2 ^ 48 → ⊥
-no_longer c es fs r status e more mid is front halts takes few =
-    let parts : fs ≡ (es ++ e ∷ []) ++ more = is ∙ sym (append_assoc es (e ∷ []) more) in
-    let fewer : length es < 2 ^ 48 = omega (arith, few, ap length is, length-append es (e ∷ more)) in
-    no_further c es r status e mid halts front
-    (takes_front c (es ++ e ∷ []) more (subst (Takes c) parts takes)) fewer
+no_longer c es fs r status e more mid is front halts few =
+    no_further c es r status e mid halts front (omega (arith, few, ap length is, length-append es (e ∷ more)))
 
 -- ---- the status
 
@@ -161,7 +144,6 @@ front_status : (c : Command) (es : List Entry) (r : List ℕ) (status : Status) 
 front_status c es r status (at_end none is) few =
     is ∙ ap (by_front c es) (sym nothing_is ∙ ap front_of (sym none))
 front_status c es r status (broken within kind at few' is) few = is ∙ ap (by_front c es) (sym at)
-front_status c es r status (refused e more at never few' is) few = is ∙ ap (by_front c es) (sym at)
 front_status c es r status (goes_on some number is) few = absurd (omega arith)
 
 abbrev full : Command → List Entry → List ℕ → Status
@@ -176,7 +158,6 @@ full_status : (c : Command) (es : List Entry) (r : List ℕ) (status : Status) �
     → length es ≡ 2 ^ 48 → status ≡ full c es r
 full_status c es r status (at_end none is) number = is ∙ ap (full c es) (sym none)
 full_status c es r status (broken within kind at few is) number = absurd (omega arith)
-full_status c es r status (refused e more at never few is) number = absurd (omega arith)
 full_status c es r status (goes_on some number' is) number = is ∙ sym (full_spent c es r some)
 
 same_status : (c : Command) (es : List Entry) (r : List ℕ) (one other : Status) → length es ≤ 2 ^ 48
@@ -192,96 +173,63 @@ same_status c es r one other few first second =
 -- ---- two readings of one input
 
 both_behind : (c : Command) (input : List ℕ) (es fs : List Entry) (one other : Status) (r s : List ℕ)
-    → CaptureThen es r input → CaptureThen fs s input → Takes c es → Takes c fs → length es ≤ 2 ^ 48
+    → CaptureThen es r input → CaptureThen fs s input → length es ≤ 2 ^ 48
     → length fs ≤ 2 ^ 48 → Halts c es r one → Halts c fs s other → one ≡ other
-both_behind c input es fs one other r s first second takes takes' few few' halts halts' =
+both_behind c input es fs one other r s first second few few' halts halts' =
     elim (compared es fs r s input first second) [
       | same is left ↦
           same_status c fs s one other few'
           (subst (λ l. Halts c fs l one) left (subst (λ (l : List Entry). Halts c l r one) is halts))
           halts'
-      | shorter e more mid is front ↦ absurd (no_longer c es fs r one e more mid is front halts takes' few')
-      | longer e more mid is front ↦ absurd (no_longer c fs es s other e more mid is front halts' takes few)
+      | shorter e more mid is front ↦ absurd (no_longer c es fs r one e more mid is front halts few')
+      | longer e more mid is front ↦ absurd (no_longer c fs es s other e more mid is front halts' few)
     ]
 
 one_halt : (c : Command) (input : List ℕ) (es fs : List Entry) (one other : Status) → Halted c input es one
     → Halted c input fs other → one ≡ other
 one_halt c input es fs one other (headless none x fault is) (headless none' y fault' is') =
     is ∙ ap (λ (p : ℕ × InputKind). BadInput p.0 p.1) (one_fault input x y fault fault') ∙ sym is'
-one_halt c input es fs one other (headless none x fault is) (behind s second takes few halts) =
+one_halt c input es fs one other (headless none x fault is) (behind s second few halts) =
     absurd (none (begins_with_header fs s input second))
-one_halt c input es fs one other (behind r first takes few halts) (headless none y fault is) =
+one_halt c input es fs one other (behind r first few halts) (headless none y fault is) =
     absurd (none (begins_with_header es r input first))
-one_halt c input es fs one other (behind r first takes few halts) (behind s second takes' few' halts') =
-    both_behind c input es fs one other r s first second takes takes' few few' halts halts'
+one_halt c input es fs one other (behind r first few halts) (behind s second few' halts') =
+    both_behind c input es fs one other r s first second few few' halts halts'
 
 -- ---- from what is said of a reading
 
-all_halt : (c : Command) (input : List ℕ) (es : List Entry) (status : Status) (found : Bool) → Takes c es
+all_halt : (c : Command) (input : List ℕ) (es : List Entry) (status : Status) (found : Bool)
     → IsRead c es input found → status ≡ (if found then Found else Done) → Halted c input es status
-all_halt c input es status found takes reads is =
-    behind [] (walk_of_all es input reads.all.capture) takes reads.all.few
+all_halt c input es status found reads is =
+    behind [] (walk_of_all es input reads.all.capture) reads.all.few
     (at_end refl (is ∙ ap (λ b. if b then Found else Done) (sym reads.found_is)))
 
-fault_halts : (c : Command) (input : List ℕ) (es : List Entry) (at : ℕ) (kind : InputKind) → Takes c es
+fault_halts : (c : Command) (input : List ℕ) (es : List Entry) (at : ℕ) (kind : InputKind)
     → FaultBehind es input at kind → Halted c input es (BadInput at kind)
-fault_halts c input es at kind takes h =
+fault_halts c input es at kind h =
     elim h.behind [
       | inl headless_is ↦ headless headless_is.1 (at, kind) h.fault refl
       | inr b ↦
-          behind b.rest b.before takes (omega (arith, h.few))
+          behind b.rest b.before (omega (arith, h.few))
           (broken b.within kind (front_back b.rest (Breaks b.within kind) b.broken) h.few
           (ap (λ n. BadInput n kind) b.place))
     ]
 
-each_front : (es : List Entry) (e : Entry) → All IsEntry (es ++ e ∷ []) → All IsEntry es
-each_front [] e each = All-nil IsEntry
-each_front (f ∷ es) e each =
-    All-append IsEntry (f ∷ []) es
-    (All-push IsEntry [] f (All-nil IsEntry) (All-head IsEntry f (es ++ e ∷ []) each))
-    (each_front es e (All-tail IsEntry f (es ++ e ∷ []) each))
-
-each_last : (es : List Entry) (e : Entry) → All IsEntry (es ++ e ∷ []) → IsEntry e
-each_last [] e each = All-head IsEntry e [] each
-each_last (f ∷ es) e each = each_last es e (All-tail IsEntry f (es ++ e ∷ []) each)
-
-unbuilt_halts : (c : Command) (input : List ℕ) (es : List Entry) (at : ℕ) (kind : InputKind) → Takes c es
-    → IsUnbuilt c es input at kind → Halted c input es (BadInput at kind)
-unbuilt_halts c input es at kind takes h =
-    let bytes : capture_bytes (es ++ h.entry ∷ []) ++ h.rest ≡ capture_bytes es ++ (entry_bytes h.entry ++ h.rest) =
-    ap (λ l. l ++ h.rest) (capture_bytes-push es h.entry)
-    ∙ append_assoc (capture_bytes es) (entry_bytes h.entry) h.rest in
-    let fits : IsEntry h.entry = each_last es h.entry h.before.each in
-    behind (entry_bytes h.entry ++ h.rest)
-    (record { each = each_front es h.entry h.before.each; whole = h.before.whole ∙ bytes })
-    takes
-    (omega (arith, h.few))
-    (refused h.entry h.rest
-    (front_back (entry_bytes h.entry ++ h.rest) (Holds h.entry h.rest) (fits, refl))
-    h.refused h.few
-    (ap (λ n. BadInput n kind) h.place ∙ ap (BadInput (length (capture_bytes es))) h.kind_is))
-
-spent_halts : (c : Command) (input : List ℕ) (es : List Entry) → Takes c es → GoesOn es input
-    → Halted c input es Spent
-spent_halts c input es takes h =
-    behind h.rest h.before takes (omega (arith, h.number)) (goes_on h.more h.number refl)
-
-broken_halts : (c : Command) (input : List ℕ) (es : List Entry) (at : ℕ) (kind : InputKind) → Takes c es
-    → OutputBreaks c es input at kind → Halted c input es (BadInput at kind)
-broken_halts c input es at kind takes (faulty h) = fault_halts c input es at kind takes h
-broken_halts c input es at kind takes (unbuilt h) = unbuilt_halts c input es at kind takes h
+spent_halts : (c : Command) (input : List ℕ) (es : List Entry) → GoesOn es input → Halted c input es Spent
+spent_halts c input es h =
+    behind h.rest h.before (omega (arith, h.number)) (goes_on h.more h.number refl)
 
 halted : (c : Command) (input : List ℕ) (status : Status) → Decides c input status
     → (es : List Entry) × Halted c input es status
-halted c input Done d = (d.0, all_halt c input d.0 Done false d.1.taken d.1.ends refl)
-halted c input Found d = (d.0, all_halt c input d.0 Found true d.1.taken d.1.ends refl)
-halted c input Usage d = absurd d.1.ends
+halted c input Done d = (d.0, all_halt c input d.0 Done false d.1 refl)
+halted c input Found d = (d.0, all_halt c input d.0 Found true d.1 refl)
+halted c input Usage d = absurd d.1
 halted c input ReadFault d = absurd d
-halted c input WriteFault d = absurd d.1.ends
-halted c input (BadInput at kind) d = (d.0, broken_halts c input d.0 at kind d.1.taken d.1.ends)
-halted c input Memory d = absurd d.1.ends
-halted c input LinkFault d = absurd d.1.ends
-halted c input Spent d = (d.0, spent_halts c input d.0 d.1.taken d.1.ends)
+halted c input WriteFault d = absurd d.1
+halted c input (BadInput at kind) d = (d.0, fault_halts c input d.0 at kind d.1)
+halted c input Memory d = absurd d.1
+halted c input LinkFault d = absurd d.1
+halted c input Spent d = (d.0, spent_halts c input d.0 d.1)
 
 pub one_ending : (c : Command) (input : List ℕ) (one other : Status) → Decides c input one → Decides c input other
     → one ≡ other

@@ -1,142 +1,77 @@
--- A report is the lines of its streams and then the last line, and goes to the sink through an empty page.
-use Rattle.std.proofs.Common.{◌≡◌, ℕ, ◌+◌, ◌<◌, List, [], ◌∷◌, ◌++◌, length, get_or, map, take, drop, Option, Result, Ok, Err, IsErrAnd, refl, sym, ap, subst, ◌∙◌, append_assoc, append-nil, arith, length-take-le, take-append-drop}
-use Rattle.std.proofs.lemmas.List.{take_more, map-append, length-map}
-use Rattle.std.specs.Io.KnownBytes.{Appends}
-use Rattle.std.proofs.KnownBytes.{Appends-trans}
-use Rattle.sflow_io.specs.Streams.{AppendsPrefix, WritesAll}
-use Rattle.sflow_io.proofs.Prefixes.{prefix_longer, prefix_after}
-use Rattle.datagram_core.specs.Heads.{head_of}
-use Rattle.datagram_core.specs.declared.head.DatagramHead.{DatagramHead}
-use Rattle.wire_spec.specs.Report.{StreamFigures, stream_line, stream_lines}
-use Rattle.text_lines.specs.Pages.{Puts, Prints, Flushes}
-use Rattle.text_lines.proofs.PageLaws.{puts_both, puts_part, puts_fails, prints_err}
-use Rattle.sflow_tool.specs.Replays.{received_once}
+-- The lines of more and more streams and sources, which are put one after the other.
+use Rattle.std.proofs.Common.{◌≡◌, ℕ, ◌+◌, ◌<◌, List, [], ◌∷◌, ◌++◌, length, take, drop, inl, inr, Option, Some, None, Result, IsErrAnd, sym, ap, subst, ◌∙◌, append_assoc, arith, length-take-le, take-append-drop}
+use Rattle.std.specs.Prelude.{slice_get}
+use Rattle.std.proofs.lemmas.List.{take_more}
+use Rattle.std.proofs.lemmas.Option.{get_or_from_slice_get, slice_get_cases, slice_get_within}
+use Rattle.sflow_io.specs.Streams.{AppendsPrefix}
+use Rattle.books_spec.specs.Books.{StreamBooks, SourceBooks}
+use Rattle.text_lines.specs.Pages.{Puts, Prints}
+use Rattle.text_lines.proofs.PageLaws.{puts_both, puts_fails, prints_err}
+use Rattle.report_lines.specs.Lines.{stream_text, source_text}
+use Rattle.report_lines.specs.Reports.{stream_texts, source_texts}
+use Rattle.report_lines.proofs.Texts.{stream_texts-append, stream_texts-push, source_texts-append, source_texts-push}
 
--- the first part doesn't go out
-pub first_fails : {T E : Type 0} (Q : E → Type 0) (r : Result T E) (a b : Option (List ℕ)) (page s t : List ℕ)
-    → page ≡ [] → IsErrAnd r Q → AppendsPrefix a b (page ++ s) → WritesAll a b r (s ++ t)
-first_fails Q (Ok x) a b page s t e bad p = absurd bad
-first_fails Q (Err x) a b page s t e bad p =
-    prefix_longer a b s t (subst (λ (l : List ℕ). AppendsPrefix a b (l ++ s)) e p)
+-- what stands at a place of a list is the next of it
+one_more : {X : Type 0} (xs : List X) (i : ℕ) (x : X) → slice_get xs i ≡ Some x → take (i + 1) xs ≡ take i xs ++ x ∷ []
+one_more xs i x there =
+    take_more xs i x (slice_get_within xs i x there)
+    ∙ ap (λ y. take i xs ++ y ∷ []) (get_or_from_slice_get xs i x x there)
 
--- the first part was put, and the second doesn't go out
-second_prefix : (a b c : Option (List ℕ)) (page held s t : List ℕ) → page ≡ [] → Puts a b page held s
-    → AppendsPrefix b c (held ++ t) → AppendsPrefix a c (s ++ t)
-second_prefix a b c page held s t e first p =
-    let whole : first.gone ++ (held ++ t) ≡ s ++ t =
-    sym (append_assoc first.gone held t) ∙ ap (λ (l : List ℕ). l ++ t) (sym first.whole)
-    ∙ ap (λ (l : List ℕ). (l ++ s) ++ t) e in
-    subst (AppendsPrefix a c) whole (prefix_after a b c first.gone (held ++ t) first.appended p)
+-- something stands at each place within a list
+pub not_there : {X : Type 0} (xs : List X) (i n : ℕ) → i < n → n ≡ length xs → None ≡ slice_get xs i → ⊥
+not_there {X} xs i n within is none =
+    elim (slice_get_cases xs i).1 [
+      | inl found ↦ let both : None ≡ Some found.0 = none ∙ found.2 in absurd cc
+      | inr past ↦ absurd (omega (arith, within, is, past.0))
+    ]
 
-pub second_fails : {T E : Type 0} (Q : E → Type 0) (r : Result T E) (a b c : Option (List ℕ)) (page held s t : List ℕ)
-    → page ≡ [] → IsErrAnd r Q → Puts a b page held s → AppendsPrefix b c (held ++ t) → WritesAll a c r (s ++ t)
-second_fails Q (Ok x) a b c page held s t e bad first p = absurd bad
-second_fails Q (Err x) a b c page held s t e bad first p = second_prefix a b c page held s t e first p
+module _ (a b c : Option (List ℕ)) (p q r line : List ℕ) where
+  module _ (xs : List StreamBooks) (i : ℕ) (x : StreamBooks) (there : Some x ≡ slice_get xs i)
+      (same : line ≡ stream_text (i + 1) x) (first : Puts a b p q (stream_texts 1 (take i xs))) where
+    next_stream : stream_texts 1 (take (i + 1) xs) ≡ stream_texts 1 (take i xs) ++ line
+    next_stream =
+        let long : length (take i xs) ≡ i = length-take-le i xs (omega (arith, slice_get_within xs i x (sym there))) in
+        ap (stream_texts 1) (one_more xs i x (sym there))
+        ∙ stream_texts-push 1 (take i xs) x
+        ∙ ap (λ n. stream_texts 1 (take i xs) ++ stream_text n x) (omega (arith, long))
+        ∙ ap (λ l. stream_texts 1 (take i xs) ++ l) (sym same)
 
--- both parts were put, and the page is written
-pub both_written : {T E : Type 0} (r : Result T E) (a b c d : Option (List ℕ)) (page held last after s t : List ℕ)
-    → page ≡ [] → Puts a b page held s → Puts b c held last t → Flushes c d last after r → WritesAll a d r (s ++ t)
-both_written {T} {E} r a b c d page held last after s t e first second flushed = go r flushed
-  where
-    gone : List ℕ
-    gone = first.gone ++ second.gone
+    -- the line of the next stream was put
+    pub stream_put : Puts b c q r line → Puts a c p r (stream_texts 1 (take (i + 1) xs))
+    stream_put second = subst (Puts a c p r) (sym next_stream) (puts_both a b c p q r _ line first second)
 
-    whole : gone ++ last ≡ s ++ t
-    whole = append_assoc first.gone second.gone last ∙ ap (λ (l : List ℕ). first.gone ++ l) (sym second.whole)
-        ∙ sym (append_assoc first.gone held t) ∙ ap (λ (l : List ℕ). l ++ t) (sym first.whole)
-        ∙ ap (λ (l : List ℕ). (l ++ s) ++ t) e
+    -- it doesn't go out
+    pub stream_fails : {T E : Type 0} (Q : E → Type 0) (result : Result T E) → IsErrAnd result Q
+        → AppendsPrefix b c (q ++ line) → Prints a c p r result (stream_texts 1 xs)
+    stream_fails Q result failed part =
+        let rest : List ℕ = stream_texts (1 + length (take (i + 1) xs)) (drop (i + 1) xs) in
+        let whole : stream_texts 1 xs ≡ stream_texts 1 (take i xs) ++ (line ++ rest) =
+        ap (stream_texts 1) (sym (take-append-drop (i + 1) xs))
+        ∙ stream_texts-append 1 (take (i + 1) xs) (drop (i + 1) xs)
+        ∙ ap (λ l. l ++ rest) next_stream ∙ append_assoc (stream_texts 1 (take i xs)) line rest in
+        prints_err Q result a c p r (stream_texts 1 xs) failed
+        (puts_fails a b c p q (stream_texts 1 (take i xs)) line rest (stream_texts 1 xs) whole first part)
 
-    out : Appends a c gone
-    out = Appends-trans a b c first.gone second.gone first.appended second.appended
+  module _ (xs : List SourceBooks) (i : ℕ) (x : SourceBooks) (there : Some x ≡ slice_get xs i)
+      (same : line ≡ source_text x) (first : Puts a b p q (source_texts (take i xs))) where
+    next_source : source_texts (take (i + 1) xs) ≡ source_texts (take i xs) ++ line
+    next_source =
+        ap source_texts (one_more xs i x (sym there))
+        ∙ source_texts-push (take i xs) x
+        ∙ ap (λ l. source_texts (take i xs) ++ l) (sym same)
 
-    go : (r : Result T E) → Flushes c d last after r → WritesAll a d r (s ++ t)
-    go (Ok x) (appended, empty) = subst (Appends a d) whole (Appends-trans a c d gone last out appended)
-    go (Err x) (prefix, held) = subst (AppendsPrefix a d) whole (prefix_after a c d gone last out prefix)
+    -- the line of the next source was put
+    pub source_put : Puts b c q r line → Puts a c p r (source_texts (take (i + 1) xs))
+    source_put second = subst (Puts a c p r) (sym next_source) (puts_both a b c p q r _ line first second)
 
--- ---- two texts, one after the other
-
--- the first doesn't go out
-pub prints_first : {T E : Type 0} (Q : E → Type 0) (r : Result T E) (a b : Option (List ℕ)) (page after s t : List ℕ)
-    → IsErrAnd r Q → AppendsPrefix a b (page ++ s) → Prints a b page after r (s ++ t)
-prints_first Q (Ok x) a b page after s t bad part = absurd bad
-prints_first Q (Err x) a b page after s t failed part =
-    subst (AppendsPrefix a b) (append_assoc page s t) (prefix_longer a b (page ++ s) t part)
-
--- the first was put
-pub prints_second : {T E : Type 0} (r : Result T E) (a b c : Option (List ℕ)) (page held after s t : List ℕ)
-    → Puts a b page held s → Prints b c held after r t → Prints a c page after r (s ++ t)
-prints_second (Ok x) a b c page held after s t first second = puts_both a b c page held after s t first second
-prints_second (Err x) a b c page held after s t first part = puts_part a b c page held s t first part
-
--- ---- the lines of streams
-
-pub stream_lines-push : (number : ℕ) (xs : List StreamFigures) (x : StreamFigures)
-    → stream_lines number (xs ++ x ∷ []) ≡ stream_lines number xs ++ stream_line (number + length xs) x
-stream_lines-push number [] x = append-nil (stream_line number x) ∙ ap (λ n. stream_line n x) (omega arith)
-stream_lines-push number (y ∷ ys) x =
-    ap (λ l. stream_line number y ++ l) (stream_lines-push (number + 1) ys x)
-    ∙ ap (λ n. stream_line number y ++ (stream_lines (number + 1) ys ++ stream_line n x)) (omega arith)
-    ∙ sym (append_assoc (stream_line number y) (stream_lines (number + 1) ys) (stream_line (number + length (y ∷ ys)) x))
-
-pub stream_lines-append : (number : ℕ) (xs ys : List StreamFigures)
-    → (more : List ℕ) × (stream_lines number (xs ++ ys) ≡ stream_lines number xs ++ more)
-stream_lines-append number [] ys = (stream_lines number ys, refl)
-stream_lines-append number (x ∷ xs) ys =
-    let rest = stream_lines-append (number + 1) xs ys in (
-      rest.0,
-      ap (λ l. stream_line number x ++ l) rest.1
-          ∙ sym (append_assoc (stream_line number x) (stream_lines (number + 1) xs) rest.0),
-    )
-
-abbrev pub lines_for : List DatagramHead → List ℕ
-lines_for heads = stream_lines 1 (map received_once (map head_of heads))
-
--- one more stream
-pub lines_more : (heads : List DatagramHead) (i number : ℕ) (d : DatagramHead) → i < length heads → number ≡ i
-    → lines_for (take (i + 1) heads)
-    ≡ lines_for (take i heads) ++ stream_line (number + 1) (received_once (head_of (get_or heads i d)))
-lines_more heads i number d within is =
-    let figures : List DatagramHead → List StreamFigures = λ l. map received_once (map head_of l) in
-    let last : StreamFigures = received_once (head_of (get_or heads i d)) in
-    let more : figures (take (i + 1) heads) ≡ figures (take i heads) ++ last ∷ [] =
-    ap figures (take_more heads i d within)
-    ∙ ap (map received_once) (map-append head_of (take i heads) (get_or heads i d ∷ []))
-    ∙ map-append received_once (map head_of (take i heads)) (head_of (get_or heads i d) ∷ []) in
-    let long : length (figures (take i heads)) ≡ i =
-    length-map (map head_of (take i heads)) received_once ∙ length-map (take i heads) head_of
-    ∙ length-take-le i heads (omega (arith, within)) in
-    ap (stream_lines 1) more ∙ stream_lines-push 1 (figures (take i heads)) last
-    ∙ ap (λ n. lines_for (take i heads) ++ stream_line n last) (omega (arith, long, is))
-
--- the line of a stream is a beginning of the lines of all that are left
-pub lines_split : (heads : List DatagramHead) (i : ℕ)
-    → (more : List ℕ) × (lines_for heads ≡ lines_for (take i heads) ++ more)
-lines_split heads i =
-    let figures : List DatagramHead → List StreamFigures = λ l. map received_once (map head_of l) in
-    let whole : figures heads ≡ figures (take i heads) ++ figures (drop i heads) =
-    ap figures (sym (take-append-drop i heads))
-    ∙ ap (map received_once) (map-append head_of (take i heads) (drop i heads))
-    ∙ map-append received_once (map head_of (take i heads)) (map head_of (drop i heads)) in
-    let rest = stream_lines-append 1 (figures (take i heads)) (figures (drop i heads)) in
-    (rest.0, ap (stream_lines 1) whole ∙ rest.1)
-
-module _ (a b c : Option (List ℕ)) (p q : List ℕ) (heads : List DatagramHead) (i number : ℕ) (d : DatagramHead)
-    (line : List ℕ) (within : i < length heads) (is : number ≡ i)
-    (same : line ≡ stream_line (number + 1) (received_once (head_of (get_or heads i d))))
-    (first : Puts a b p q (lines_for (take i heads))) where
-  next : lines_for (take (i + 1) heads) ≡ lines_for (take i heads) ++ line
-  next = lines_more heads i number d within is ∙ ap (λ l. lines_for (take i heads) ++ l) (sym same)
-
-  -- the line of the next stream was put
-  pub stream_put : (r : List ℕ) → Puts b c q r line → Puts a c p r (lines_for (take (i + 1) heads))
-  stream_put r second = subst (Puts a c p r) (sym next) (puts_both a b c p q r _ line first second)
-
-  -- it doesn't go out
-  pub stream_fails : {T E : Type 0} (Q : E → Type 0) (result : Result T E) (r : List ℕ) → IsErrAnd result Q
-      → AppendsPrefix b c (q ++ line) → Prints a c p r result (lines_for heads)
-  stream_fails Q result r failed part =
-      let rest = lines_split heads (i + 1) in
-      let whole : lines_for heads ≡ lines_for (take i heads) ++ (line ++ rest.0) =
-      rest.1 ∙ ap (λ l. l ++ rest.0) next ∙ append_assoc (lines_for (take i heads)) line rest.0 in
-      prints_err Q result a c p r (lines_for heads) failed
-      (puts_fails a b c p q (lines_for (take i heads)) line rest.0 (lines_for heads) whole first part)
+    -- it doesn't go out
+    pub source_fails : {T E : Type 0} (Q : E → Type 0) (result : Result T E) → IsErrAnd result Q
+        → AppendsPrefix b c (q ++ line) → Prints a c p r result (source_texts xs)
+    source_fails Q result failed part =
+        let rest : List ℕ = source_texts (drop (i + 1) xs) in
+        let whole : source_texts xs ≡ source_texts (take i xs) ++ (line ++ rest) =
+        ap source_texts (sym (take-append-drop (i + 1) xs))
+        ∙ source_texts-append (take (i + 1) xs) (drop (i + 1) xs)
+        ∙ ap (λ l. l ++ rest) next_source ∙ append_assoc (source_texts (take i xs)) line rest in
+        prints_err Q result a c p r (source_texts xs) failed
+        (puts_fails a b c p q (source_texts (take i xs)) line rest (source_texts xs) whole first part)

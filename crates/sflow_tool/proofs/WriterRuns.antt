@@ -17,7 +17,7 @@ use Rattle.sflow_tool.specs.declared.walk.Counts.{Counts}
 use Rattle.sflow_tool.specs.declared.walk.Stop.TheVariants as stops
 use Rattle.sflow_tool.specs.Endings.{Flushed, whole, part, refusal_status}
 use Rattle.sflow_tool.specs.Lines.{lines_of}
-use Rattle.sflow_tool.specs.Outputs.{Reads, Takes, WritesAtTheEnd, faulty, part_text, text_at, finds, whole_text}
+use Rattle.sflow_tool.specs.Outputs.{Reads, WritesAtTheEnd, part_text, text_at, finds, whole_text}
 use Rattle.sflow_tool.specs.Runs.{Runs}
 use Rattle.sflow_tool.specs.Walks.{HasWalkCause, Moved, WrotePart, WroteSome, WroteAll}
 
@@ -52,7 +52,6 @@ put_part_only a b c page held text empty put some =
 
 module _ (c : Command) (line : ℕ → Entry → List ℕ)
     (parts : (entries : List Entry) → lines_of line 1 entries ≡ part_text c entries)
-    (takes : (entries : List Entry) → Takes c entries)
     (streams : WritesAtTheEnd c → ⊥)
     (left left' a b : Option (List ℕ)) (page held : List ℕ) (empty : page ≡ [])
     (read read' written written' : ℕ) where
@@ -73,7 +72,7 @@ module _ (c : Command) (line : ℕ → Entry → List ℕ)
         record {
           entries = t.entries;
           ending = ReadFault;
-          reads = record { taken = takes t.entries; ends = t.begins };
+          reads = t.begins;
           taken = subst
               (AppendsPrefix a b)
               (ap (λ l. l ++ lines_of line 1 t.entries) empty ∙ parts t.entries)
@@ -126,7 +125,7 @@ module _ (c : Command) (line : ℕ → Entry → List ℕ)
         let t = told input are is in
         record {
           entries = t.entries;
-          reads = record { taken = takes t.entries; ends = t.ends };
+          reads = t.ends;
           taken = subst (Appends a d) (parts t.entries) (put_whole a b d page held _ empty t.put all);
         };
     at_end = λ e. elim e [ inl e ↦ absurd cc | inr e ↦ absurd cc ];
@@ -143,7 +142,7 @@ module _ (c : Command) (line : ℕ → Entry → List ℕ)
         let t = told input are is in
         record {
           entries = t.entries;
-          reads = record { taken = takes t.entries; ends = faulty t.ends };
+          reads = t.ends;
           taken = subst (Appends a d) (parts t.entries) (put_whole a b d page held _ empty t.put all);
         };
     at_end = λ e. elim e [ inl e ↦ absurd cc | inr e ↦ absurd cc ];
@@ -160,7 +159,7 @@ module _ (c : Command) (line : ℕ → Entry → List ℕ)
         let t = told input are is in
         record {
           entries = t.entries;
-          reads = record { taken = takes t.entries; ends = t.ends };
+          reads = t.ends;
           taken = subst (Appends a d) (parts t.entries) (put_whole a b d page held _ empty t.put all);
         };
     at_end = λ e. elim e [ inl e ↦ absurd cc | inr e ↦ absurd cc ];
@@ -181,16 +180,16 @@ module _ (c : Command) (line : ℕ → Entry → List ℕ)
       × Puts a b page held (text_at c entries (refusal_status refusal))
   reads_so refusals.ReadFault told input are is =
       let t = told input are is in
-      (t.entries, record { taken = takes t.entries; ends = t.ends }, subst (Puts a b page held) (parts t.entries) t.put)
+      (t.entries, t.ends, subst (Puts a b page held) (parts t.entries) t.put)
   reads_so (refusals.BadInput at kind) told input are is =
       let t = told input are is in (
         t.entries,
-        record { taken = takes t.entries; ends = faulty t.ends },
+        t.ends,
         subst (Puts a b page held) (parts t.entries) t.put,
       )
   reads_so refusals.Spent told input are is =
       let t = told input are is in
-      (t.entries, record { taken = takes t.entries; ends = t.ends }, subst (Puts a b page held) (parts t.entries) t.put)
+      (t.entries, t.ends, subst (Puts a b page held) (parts t.entries) t.put)
 
   pub refusal_ends : (refusal : ReadRefusal) (d : Option (List ℕ)) (written'' : ℕ) (status result : Status)
       → status ≡ refusal_status refusal
@@ -225,7 +224,7 @@ module _ (c : Command) (line : ℕ → Entry → List ℕ)
         let t = told input are is in
         record {
           entries = t.entries;
-          reads = record { taken = takes t.entries; ends = record { all = t.all; found_is = none t.entries } };
+          reads = record { all = t.all; found_is = none t.entries };
           taken = subst (Appends a d) (wholes t.entries) (put_whole a b d page held _ empty t.put all);
         };
     at_end = λ e. at_end;
@@ -258,7 +257,7 @@ module _ (c : Command) (line : ℕ → Entry → List ℕ)
       (λ input are is.
       let t = told input are is in (
         t.entries,
-        record { taken = takes t.entries; ends = record { all = t.all; found_is = none t.entries } },
+        record { all = t.all; found_is = none t.entries },
         subst (Puts a b page held) (wholes t.entries) t.put,
       ))
       d written'' some rose (cause.write_kept (λ e. cc)))

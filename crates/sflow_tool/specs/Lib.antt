@@ -5,12 +5,10 @@ pub mod Checks
 pub mod Walks
 pub mod Statuses
 pub mod Replays
-pub mod Tallies
 pub mod Outputs
 pub mod Endings
 pub mod Collects
 pub mod Runs
-pub mod Views
 pub use Rattle.sflow_io.specs.Causes
 pub use Rattle.sflow_io.specs.Streams
 pub use Rattle.command_words.specs.Commands

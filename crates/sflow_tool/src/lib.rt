@@ -10,11 +10,11 @@ mod replay;
 mod report;
 mod show;
 mod status;
-mod tally;
 mod top;
 mod walk;
 
 pub use command_words::Command;
+pub use flow_collector::{Limits, Seeds};
 pub use laws::{items_are_exact, one_ending};
 pub use sflow_io::{Failed, InputSource, MemorySink, MemorySource, OutputSink, Sink, Source};
 pub use status::{Line, Status};

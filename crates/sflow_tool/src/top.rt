@@ -11,19 +11,23 @@ use crate::Status;
 use crate::check::check;
 use crate::replay::replay;
 use crate::show::show;
-use command_words::{Command as Asked, WordsRefusal, read_words};
+use command_words::{Command as Asked, WordsRefusal, limits_are_lawful, read_words};
+use flow_collector::Seeds;
 use sflow_io::{Sink, Source};
 use std::alloc::Global;
 
 /// Does what the words say, from the source to the sink. The words are without the program's name.
 ///
-/// `replay` reads a capture and writes its report: a line for each stream, one for the first entry that is no
-/// datagram, and the line of totals. A stream may have one datagram; a further one is refused as unbuilt.
-/// `show` reads a capture and writes the lines of each entry. `check` reads a capture and writes a line for each entry that is no datagram, and then how many there are;
-/// `--zero` asks for zero padding.
+/// `replay` reads a capture and writes its report: a line for each stream and each source, one for the first entry
+/// that is no datagram, and the line of totals. Its options are the limits of the collector, and `seeds` is what the
+/// hashes of the collector's tables begin with, on which nothing that is written depends.
+/// `show` reads a capture and writes the lines of each entry. `check` reads a capture and writes a line for each entry
+/// that is no datagram, and then how many there are; `--zero` asks for zero padding.
+/// All memory is taken before the first byte is read or written.
 pub fn run<S: Source, K: Sink>(
     alloc: Global,
     words: &[String],
+    seeds: Seeds,
     source: &mut S,
     sink: &mut K,
 ) -> Status
@@ -43,8 +47,9 @@ pub fn run<S: Source, K: Sink>(
         → ¬ Rose (S.faults source.old) (S.faults source.new) → ¬ Rose (K.faults sink.old) (K.faults sink.new)
         → (result ≡ ending) ⊎ (result ≡ Status.Memory) }
 {
+    limits_are_lawful();
     match read_words(alloc, words) {
-        Ok(Asked::Replay) => replay(alloc, source, sink),
+        Ok(Asked::Replay { limits }) => replay(alloc, limits, seeds, source, sink),
         Ok(Asked::Show) => show(alloc, source, sink),
         Ok(Asked::Check { pad }) => check(alloc, pad, source, sink),
         Err(WordsRefusal::Usage) => Status::Usage,

@@ -14,18 +14,12 @@ returns-clause-memory c =
     ∙ lawful_taken c.args.name.now (rules_in c.args.arguments.now) words c.requires.rules c.requires.lawful))
     c.try_get_matches_from.ensures.passes
 
-pub returns-clause-flags : goal.returns-clause-flags
-returns-clause-flags c =
+pub returns-clause-matches : goal.returns-clause-matches
+returns-clause-matches c =
     let words : List Text = map string_bytes c.args.words.now in
     IfOk-weaker c.try_get_matches_from.result _ _
-    (λ matches has flag pieces there lawful.
-    lawful_flag c.args.name.now (rules_in c.args.arguments.now) words _ matches c.in_ok-clap_command.ensures has c.requires.rules pieces lawful flag there)
-    c.try_get_matches_from.ensures.matches
-
-pub returns-clause-options : goal.returns-clause-options
-returns-clause-options c =
-    let words : List Text = map string_bytes c.args.words.now in
-    IfOk-weaker c.try_get_matches_from.result _ _
-    (λ matches has option pieces there lawful.
-    lawful_option c.args.name.now (rules_in c.args.arguments.now) words _ matches c.in_ok-clap_command.ensures has c.requires.rules pieces lawful option there)
+    (λ matches has pieces lawful. record {
+      flags = λ flag there. lawful_flag c.args.name.now (rules_in c.args.arguments.now) words _ matches c.in_ok-clap_command.ensures has c.requires.rules pieces lawful flag there;
+      options = λ option there. lawful_option c.args.name.now (rules_in c.args.arguments.now) words _ matches c.in_ok-clap_command.ensures has c.requires.rules pieces lawful option there;
+    })
     c.try_get_matches_from.ensures.matches

@@ -14,12 +14,12 @@ pub returns-in-Err-Read : goal.returns-in-Err-Read
 returns-in-Err-Read g c =
     let told = rw c.in-Err-Read.field-0-is at c.in-Err-Read.ensures.told in
     let cause = rw c.in-Err-Read.field-0-is at c.in-Err-Read.ensures.cause in
-    refusal_ends (Check c.args.pad) (check_line c.args.pad) (λ _. refl) (λ _. tt) (λ e. e) _ _ _ _ _ _ c.new-page.ensures
+    refusal_ends (Check c.args.pad) (check_line c.args.pad) (λ _. refl) (λ e. e) _ _ _ _ _ _ c.new-page.ensures
     _ _ _ _ _ _ _ _ _ c.status_of.ensures told cause c.flush.ensures
 
 pub returns-in-Err-Write : goal.returns-in-Err-Write
 returns-in-Err-Write g c =
     let told = rw c.in-Err-Write.field-0-is at c.in-Err-Write.ensures.told in
     let cause = rw c.in-Err-Write.field-0-is at c.in-Err-Write.ensures.cause in
-    write_failed (Check c.args.pad) (check_line c.args.pad) (λ _. refl) (λ _. tt) (λ e. e) _ _ _ _ _ _ c.new-page.ensures
+    write_failed (Check c.args.pad) (check_line c.args.pad) (λ _. refl) (λ e. e) _ _ _ _ _ _ c.new-page.ensures
     _ _ _ _ told cause

@@ -1,18 +1,32 @@
-use Rattle.std.proofs.Common.{◌+◌, ap, ◌∙◌}
-use Rattle.wire_spec.specs.Report.{stream_line}
-use Rattle.sflow_tool.proofs.Reports.{stream_put, stream_fails}
+use Rattle.std.proofs.Common.{refl, sym, ◌∙◌}
+use Rattle.books_spec.specs.Books.{books, stream_books, listed_streams}
+use Rattle.std.proofs.lemmas.List.{length-map}
+use Rattle.collector_views.specs.Views.{stream_shown}
+use Rattle.sflow_tool.proofs.Reports.{stream_put, stream_fails, not_there}
 use Rattle.sflow_tool.proofs.report.put_streams.Goals as goal
+use Rattle.sflow_tool.proofs.report.put_streams.Goals.{in-Some+in_ok-put_stream, in_default}
 
-pub loop-head-preserved : goal.loop-head-preserved
-loop-head-preserved g c =
-    let before = c.loop-head.invariant in
-    record {
-      number = ap (λ n. n + 1) before.number;
-      put = stream_put _ _ _ _ _ _ _ _ _ _ c.loop-head-test.true before.number (ap (stream_line _) c.seen_once.ensures) before.put _ c.in_ok-put_stream.ensures.prints;
-      kept = c.in_ok-put_stream.ensures.cause.kept ∙ before.kept;
-    }
+pub loop-place-preserved : goal.loop-place-preserved
+loop-place-preserved g c =
+    let before = c.loop-place.invariant in
+    elim c.match-stream.branch [
+      | in-Some+in_ok-put_stream w ↦ record {
+        put = λ l items stands.
+            rw (w.page-is, w.sink-is)
+            (stream_put _ _ _ _ _ _ _ (books l items).streams c.loop-place.place (stream_shown w.in-Some.view)
+            (w.in-Some.ensures.view l items stands) refl (before.put l items stands) w.in_ok-put_stream.ensures.prints);
+        kept = rw w.sink-is (w.in_ok-put_stream.ensures.cause.kept ∙ before.kept);
+      }
+      | in_default w ↦ record {
+        put = λ l items stands.
+            absurd (not_there (books l items).streams c.loop-place.place c.stream_count-place-end.result c.loop-place-test.true
+            (c.stream_count-place-end.ensures.streams l items stands ∙ sym (length-map (listed_streams l items) (stream_books l items))) (w.in_default.ensures.view l items stands));
+        kept = rw w.sink-is before.kept;
+      }
+    ]
 
 pub returns-in_err-put_stream-clause-prints : goal.returns-in_err-put_stream-clause-prints
-returns-in_err-put_stream-clause-prints g c =
-    let before = c.loop-head.invariant in
-    stream_fails _ _ _ _ _ _ _ _ _ _ c.loop-head-test.true before.number (ap (stream_line _) c.seen_once.ensures) before.put _ _ _ c.from_residual.ensures.1 c.in_err-put_stream.ensures.prints
+returns-in_err-put_stream-clause-prints g c = λ l items stands.
+    stream_fails _ _ _ _ _ _ _ (books l items).streams c.loop-place.place (stream_shown c.in-Some.view)
+    (c.in-Some.ensures.view l items stands) refl (c.loop-place.invariant.put l items stands) _ _
+    c.from_residual.ensures.1 c.in_err-put_stream.ensures.prints

@@ -1,15 +1,16 @@
 -- The lines so far were put, and no call has failed.
-use Rattle.std.proofs.Common.{◌≡◌, take, map}
-use Rattle.datagram_core.specs.Heads.{head_of}
-use Rattle.wire_spec.specs.Report.{stream_lines}
+use Rattle.std.proofs.Common.{◌≡◌, List, take}
+use Rattle.books_spec.specs.Items.{Item, Limits as Room}
+use Rattle.books_spec.specs.Books.{books}
+use Rattle.flow_collector.specs.Collectors.{StandsFor}
 use Rattle.text_lines.specs.Pages.{Puts}
-use Rattle.sflow_tool.specs.Replays.{received_once}
+use Rattle.report_lines.specs.Reports.{stream_texts}
 use Rattle.sflow_tool.proofs.report.put_streams.Given as goal
 
-abbrev pub invariant-loop-head : goal.invariant-loop-head
-invariant-loop-head g l = record {
-  number : l.number ≡ l.head-index;
-  put : Puts (g.K.Sink.taken l.initial.sink) (g.K.Sink.taken l.sink) l.initial.page l.page
-      (stream_lines 1 (map received_once (map head_of (take l.head-index l.heads))));
+abbrev pub invariant-loop-place : goal.invariant-loop-place
+invariant-loop-place g l = record {
+  put : (l' : Room) (items : List Item) → StandsFor l.collector l' items
+      → Puts (g.K.Sink.taken l.initial.sink) (g.K.Sink.taken l.sink) l.initial.page l.page
+      (stream_texts 1 (take l.place (books l' items).streams));
   kept : g.K.Sink.faults l.sink ≡ g.K.Sink.faults l.initial.sink;
 }

@@ -6,18 +6,18 @@ use Rattle.sflow_tool.proofs.show.show_in.Goals as goal
 
 pub returns-in-Ok : goal.returns-in-Ok
 returns-in-Ok g c =
-    done_ends Show entry_text (λ _. refl) (λ _. tt) (λ e. e) _ _ _ _ _ _ c.new-page.ensures _ _ _ _ _ (λ _. false) _ _ _
+    done_ends Show entry_text (λ _. refl) (λ e. e) _ _ _ _ _ _ c.new-page.ensures _ _ _ _ _ (λ _. false) _ _ _
     (λ _. refl) (λ _. refl) c.in-Ok.ensures.told c.in-Ok.ensures.at_end c.in-Ok.ensures.cause c.flush.ensures
 
 pub returns-in-Err-Read : goal.returns-in-Err-Read
 returns-in-Err-Read g c =
     let told = rw c.in-Err-Read.field-0-is at c.in-Err-Read.ensures.told in
     let cause = rw c.in-Err-Read.field-0-is at c.in-Err-Read.ensures.cause in
-    refusal_ends Show entry_text (λ _. refl) (λ _. tt) (λ e. e) _ _ _ _ _ _ c.new-page.ensures _ _ _ _ _ _ _ _ _
+    refusal_ends Show entry_text (λ _. refl) (λ e. e) _ _ _ _ _ _ c.new-page.ensures _ _ _ _ _ _ _ _ _
     c.status_of.ensures told cause c.flush-in-Err-Read.ensures
 
 pub returns-in-Err-Write : goal.returns-in-Err-Write
 returns-in-Err-Write g c =
     let told = rw c.in-Err-Write.field-0-is at c.in-Err-Write.ensures.told in
     let cause = rw c.in-Err-Write.field-0-is at c.in-Err-Write.ensures.cause in
-    write_failed Show entry_text (λ _. refl) (λ _. tt) (λ e. e) _ _ _ _ _ _ c.new-page.ensures _ _ _ _ told cause
+    write_failed Show entry_text (λ _. refl) (λ e. e) _ _ _ _ _ _ c.new-page.ensures _ _ _ _ told cause

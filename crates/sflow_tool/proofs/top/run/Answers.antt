@@ -10,10 +10,11 @@ same_command c d e = cc
 
 pub returns-in-Ok-Replay-clause-complete : goal.returns-in-Ok-Replay-clause-complete
 returns-in-Ok-Replay-clause-complete g c = λ command input ending words are told decides no_read no_write.
-    let same : command ≡ Replay =
-    same_command command Replay
+    let replays : Command = Replay c.in-Ok-Replay.limits in
+    let same : command ≡ replays =
+    same_command command replays
     (sym words ∙ c.in-Ok-Replay.ensures.command ∙ ap (λ (d : Command). Some d) c.in-Ok-Replay.field-0-is) in
-    completed Replay input _ _ _ _ _ _ _ _ _ _ c.replay.ensures are told
+    completed replays input _ _ _ _ _ _ _ _ _ _ c.replay.ensures are told
     (subst (λ (d : Command). Decides d input ending) same decides) no_read no_write
 
 pub returns-in-Ok-Show-clause-complete : goal.returns-in-Ok-Show-clause-complete

@@ -1,0 +1,61 @@
+-- A collector, and the items for which it stands, the LATEST FIRST.
+use Rattle.std.specs.Prelude.{◌≡◌, ℕ, ◌≤◌, ◌<◌, List, [], ◌∷◌, length}
+use Rattle.books_spec.specs.Items.{Item, Got, Malformed, Limits}
+use Rattle.books_spec.specs.Books.{sources_of, source_boots, Totals, totals, most_entries}
+use Rattle.stream_books.specs.Streams.{StreamState}
+use Rattle.stream_books.specs.declared.source.SourceRecord.{SourceRecord}
+use Rattle.collector_tables.specs.declared.keys.StreamKey.{StreamKey}
+use Rattle.collector_tables.specs.declared.keys.SourceKey.{SourceKey}
+use Rattle.collector_tables.specs.Tables.{Table}
+use Rattle.collector_tables.specs.Listed.{StreamsStand}
+use Rattle.collector_tables.specs.Sources.{SourcesStand}
+use Rattle.collector_views.specs.Limits.{limits_in}
+use Rattle.collector_views.specs.Views.{totals_shown}
+use Rattle.flow_collector.specs.declared.collector.Collector.TheInside.{Inside}
+
+-- what contracts see of a collector: what it may hold, its tables, and its counts
+pub record CollectorState : Type 0 where
+  pub limits : Limits
+  pub streams : Table StreamKey StreamState
+  pub sources : Table SourceKey SourceRecord
+  pub totals : Totals
+
+abbrev pub collector_state : Inside → CollectorState
+collector_state c = record {
+  limits = limits_in c.limits;
+  streams = c.streams;
+  sources = c.sources;
+  totals = totals_shown c.totals;
+}
+
+-- under these limits it stands for these items
+pub record StandsFor (s : CollectorState) (l : Limits) (items : List Item) : Type 0 where
+  pub limits_are : s.limits ≡ l
+  pub stream_limit : s.streams.limit ≡ l.streams
+  pub source_limit : s.sources.limit ≡ l.sources
+  pub streams_stand : StreamsStand l s.streams.entries items
+  pub sources_stand :
+      SourcesStand l.sources l.sample_width s.sources.entries (sources_of l items) (λ k. source_boots l k items)
+  pub totals_are : s.totals ≡ totals l items
+
+-- a datagram has at most 8,191 samples
+abbrev pub AreFew : List Item → Type 0
+AreFew [] = Unit {0}
+AreFew (Got d ∷ before) = (length d.samples ≤ 8191) × AreFew before
+AreFew (Malformed f ∷ before) = AreFew before
+
+-- the widths of the windows, and how many may be listed
+pub record AreWithin (l : Limits) : Type 0 where
+  pub streams : l.streams ≤ 4096
+  pub datagrams_from : 1 ≤ l.datagram_width
+  pub datagrams_to : l.datagram_width ≤ 1024
+  pub samples_from : 1 ≤ l.sample_width
+  pub samples_to : l.sample_width ≤ 1024
+
+-- what is always so: it stands for some items, no more than 2^48
+pub record IsCollector (s : CollectorState) : Type 0 where
+  pub within : AreWithin s.limits
+  pub items : List Item
+  pub stands : StandsFor s s.limits items
+  pub few_samples : AreFew items
+  pub few_entries : length items ≤ most_entries

@@ -1,0 +1,122 @@
+-- The item of an entry: a datagram as the books see it, as a function of its value, or the fault of its bytes.
+use Rattle.std.specs.Prelude.{ℕ, zero, suc, ◌==◌, List, [], ◌∷◌, Result, Ok, Err, if◌then◌else◌}
+use Rattle.wire_spec.specs.declared.pad.Pad.TheVariants.{Any}
+use Rattle.wire_spec.specs.declared.fault.Fault.{Fault}
+use Rattle.wire_spec.specs.Shapes.{word, fixed, array, structure, union, Tree, known, Trees, none, ◌&◌}
+use Rattle.wire_spec.specs.Heads.{AgentAddress, unknown, ipv4, ipv6, Head}
+use Rattle.wire_spec.specs.Whole.{whole_reading}
+use Rattle.data_format.specs.declared.source.SourceId as ids
+use Rattle.data_format.specs.Compact.{source_of}
+use Rattle.datagram_core.specs.Tables.{datagram_read}
+use Rattle.books_spec.specs.Items.{Reading, Sample, Other, flow_sample, counters_sample, Datagram, Item, Got, Malformed}
+
+-- ---- members and values
+
+-- the members of a structure
+abbrev pub members_of : Tree → Trees
+members_of (structure members) = members
+members_of _ = none
+
+-- the values of an array
+abbrev pub values_of : Tree → Trees
+values_of (array values) = values
+values_of _ = none
+
+-- the member in this place, counted from 0
+abbrev pub member : ℕ → Trees → Tree
+member k none = structure none
+member zero (t & more) = t
+member (suc k) (t & more) = member k more
+
+abbrev pub number_of : Tree → ℕ
+number_of (word n) = n
+number_of _ = 0
+
+abbrev pub number_in : ℕ → Trees → ℕ
+number_in k members = number_of (member k members)
+
+-- ---- samples
+
+-- the sources of the compact form stand in one word
+abbrev pub compact_source : Trees → ids.SourceId
+compact_source members = source_of (number_in 1 members)
+
+-- the members are sequence number, source, rate, pool and drops, and more
+abbrev pub compact_flow : Trees → Sample
+compact_flow members = flow_sample (compact_source members).class (compact_source members).index (record {
+  mark = number_in 0 members;
+  pool = number_in 3 members;
+  drops = number_in 4 members;
+  rate = number_in 2 members;
+})
+
+-- the sources of the expanded form stand in two words
+abbrev pub expanded_flow : Trees → Sample
+expanded_flow members = flow_sample (number_in 1 members) (number_in 2 members) (record {
+  mark = number_in 0 members;
+  pool = number_in 4 members;
+  drops = number_in 5 members;
+  rate = number_in 3 members;
+})
+
+-- the members are sequence number and source, and more
+abbrev pub compact_counters : Trees → Sample
+compact_counters members =
+    counters_sample (compact_source members).class (compact_source members).index (number_in 0 members)
+
+abbrev pub expanded_counters : Trees → Sample
+expanded_counters members = counters_sample (number_in 1 members) (number_in 2 members) (number_in 0 members)
+
+-- a sample of this format
+abbrev pub sample_of : ℕ → Trees → Sample
+sample_of k members =
+    if k == 1 then compact_flow members else (
+    if k == 2 then compact_counters members else (
+    if k == 3 then expanded_flow members else (
+    if k == 4 then expanded_counters members else Other)))
+
+unfoldable pub sample_in : Tree → Sample
+sample_in (known k value tail) = sample_of k (members_of value)
+sample_in _ = Other
+
+abbrev pub samples_in : Trees → List Sample
+samples_in none = []
+samples_in (t & more) = sample_in t ∷ samples_in more
+
+-- ---- datagrams
+
+-- 1 four bytes of IPv4, 2 sixteen bytes of IPv6, else none
+abbrev pub address_in : Tree → AgentAddress
+address_in (union k (fixed bytes)) = if k == 1 then ipv4 bytes else ipv6 bytes
+address_in _ = unknown
+
+abbrev pub head_in : Trees → Head
+head_in members = record {
+  agent = address_in (member 0 members);
+  sub_agent = number_in 1 members;
+  sequence = number_in 2 members;
+  uptime = number_in 3 members;
+}
+
+-- the members behind the version word
+abbrev pub behind_version : Tree → Trees
+behind_version (union version body) = members_of body
+behind_version _ = none
+
+-- the datagram of this value, which arrived at this time in ms
+abbrev pub datagram_in : ℕ → Tree → Datagram
+datagram_in arrival t = record {
+  arrival = arrival;
+  head = head_in (behind_version t);
+  samples = samples_in (values_of (member 4 (behind_version t)));
+}
+
+-- ---- entries
+
+abbrev pub item_of : ℕ → Result Tree Fault → Item
+item_of arrival (Ok t) = Got (datagram_in arrival t)
+item_of arrival (Err f) = Malformed f
+
+-- the item of an entry with this arrival in ms and these bytes, whatever the padding is
+abbrev pub item_in : ℕ → List ℕ → Item
+item_in arrival bytes = item_of arrival (whole_reading Any datagram_read bytes)

@@ -1,0 +1,293 @@
+ghost use Rattle.std.specs.Prelude.{◌≡◌, ℕ, ◌+◌, ◌≤◌, ◌<◌, true, List, [], ◌∷◌, length, slice_get, Some, IfOk, IfErr, IfSome};
+ghost use Rattle.std.specs.declared.result.Result.TheVariants.{Err};
+ghost use Rattle.std.specs.Option.{option_map};
+ghost use Rattle.data_format.specs.Trees.{frame_tree, frame_trees};
+ghost use Rattle.data_format.specs.Views.{FrameView};
+ghost use Rattle.datagram_core.specs.Samples.{IsSampleOf};
+ghost use Rattle.datagram_core.specs.Tables.{samples_read};
+ghost use Rattle.datagram_core.specs.Trees.{tree_of};
+ghost use Rattle.books_spec.specs.Items.{Datagram as Given, Item, Got, Malformed as Faulty, stream_of, Limits as Room};
+ghost use Rattle.books_spec.specs.Books.{books, taken, taken_now, totals, listed_streams, listed_sources, most_entries};
+ghost use Rattle.stream_books.specs.Streams.{IsAt};
+ghost use Rattle.stream_books.specs.Taken.{taken_in_books};
+ghost use Rattle.collector_tables.specs.Keys.{stream_in};
+ghost use Rattle.collector_views.specs.Limits.{limits_in, refused_limit};
+ghost use Rattle.collector_views.specs.Views.{stream_shown, source_shown, totals_shown};
+ghost use Rattle.flow_collector.specs.Items.{datagram_in, sample_in, samples_in};
+ghost use Rattle.flow_collector.specs.Collectors.{StandsFor};
+ghost use Rattle.flow_collector.specs.Shown.{sample_shown};
+ghost use Rattle.flow_collector.specs.Steps.{with_samples, with_sample, Enters, Midway, boot_number};
+ghost use Rattle.flow_collector.specs.Refusals.{IsRefusedBy};
+
+use crate::OpenRefusal;
+use crate::shown::{Shown, read_sample};
+use collector_tables::{SourceKey, SourceTable, StreamKey, StreamTable};
+use collector_views::{FirstFault, Limits, SourceView, StreamView, Totals};
+use data_format::Fault;
+use datagram_core::{Datagram, Sample, Samples};
+use std::alloc::Global;
+use std::hash::RandomState;
+use std::marker::Model;
+use stream_books::Taken;
+
+/// At most so many entries are taken.
+const MOST_ENTRIES: u64 = 1 << 48;
+
+/// What the hashes of a collector's tables begin with. No figure depends on it.
+#[derive(Clone, Copy)]
+pub struct Seeds {
+    /// Of the table of streams.
+    pub streams: RandomState,
+    /// Of the table of sources.
+    pub sources: RandomState,
+}
+
+/// What a collector holds: the streams and the sources that it lists, and counts of all entries.
+#[derive(Drop)]
+pub struct Collector {
+    limits: Limits,
+    streams: StreamTable,
+    sources: SourceTable,
+    totals: Totals,
+}
+
+impl Model for Collector {
+    ghost use Rattle.flow_collector.specs.Collectors.{CollectorState, collector_state, IsCollector};
+
+    ghost Value = { CollectorState };
+
+    ghost view = { collector_state };
+
+    ghost invariant = { λ c. IsCollector (collector_state c) };
+}
+
+impl Collector {
+    /// Nothing was taken yet; there is room for all that the limits allow, and no later call takes memory.
+    ///
+    /// `BadLimit` comes exactly where a limit is out of its range, with the least number of such a limit; `Memory`
+    /// only where there is none for the tables.
+    pub fn open(alloc: Global, limits: Limits, seeds: Seeds) -> Result<Collector, OpenRefusal>
+        ensures stands { IfOk result (λ c. StandsFor c (limits_in limits) []) }
+        ensures refused { IfErr result (λ e. IsRefusedBy limits e) }
+        ensures bad_limit { (number : ℕ) → refused_limit limits ≡ Some number → result ≡ Err (OpenRefusal.BadLimit number) }
+    {
+        if let Some(number) = limits.refused() {
+            return Err(OpenRefusal::BadLimit { number });
+        }
+        Collector::with_room(alloc, limits, seeds)
+    }
+
+    // The same where each limit is within its range.
+    fn with_room(alloc: Global, limits: Limits, seeds: Seeds) -> Result<Collector, OpenRefusal>
+        requires { refused_limit limits ≡ None }
+        ensures stands { IfOk result (λ c. StandsFor c (limits_in limits) []) }
+        ensures refused { IfErr result (λ e. IsRefusedBy limits e) }
+    {
+        let Ok(streams) = StreamTable::open(alloc, limits.streams, seeds.streams) else {
+            return Err(OpenRefusal::Memory);
+        };
+        let Ok(sources) = SourceTable::open(alloc, limits.sources, seeds.sources) else {
+            return Err(OpenRefusal::Memory);
+        };
+        Ok(Collector {
+            limits,
+            streams,
+            sources,
+            totals: NO_TOTALS,
+        })
+    }
+
+    /// Takes a datagram, which arrived at `at` ms, as the next entry, and answers, in this order: `Spent`, exactly
+    /// where 2^48 entries were taken before, and then nothing changes; `Unlisted`, exactly where its stream is new and
+    /// as many are listed as the limits allow; `Stale`, where it comes from an earlier boot of its sub-agent; `Late`,
+    /// `Repeat` or `First` by the window over the numbers of its boot. The samples of a `First` datagram are entered,
+    /// in their order. Never `Malformed`. It takes no memory.
+    pub fn take(&mut self, at: u64, datagram: &Datagram<'_>) -> Taken
+        ensures stands { (l : Room) (items : List Item) → length items < most_entries → StandsFor self.old l items
+            → StandsFor self.new l (Got (datagram_in at (tree_of datagram.now)) ∷ items) }
+        ensures answer { (l : Room) (items : List Item) → StandsFor self.old l items
+            → taken_in_books result ≡ taken l items (Got (datagram_in at (tree_of datagram.now))) }
+        ensures spent { (l : Room) (items : List Item) → most_entries ≤ length items → StandsFor self.old l items
+            → self.new ≡ self.old }
+    {
+        if self.totals.entries >= MOST_ENTRIES {
+            return Taken::Spent;
+        }
+        let head = datagram.head();
+        let stream = StreamKey {
+            agent: head.agent,
+            sub_agent: head.sub_agent,
+        };
+        let taken = self.take_head(stream, at, head.uptime, head.sequence);
+        if taken == Taken::First {
+            self.enter_samples(stream, datagram.samples());
+        }
+        taken
+    }
+
+    // Takes a datagram as though it had no samples.
+    fn take_head(&mut self, stream: StreamKey, at: u64, uptime: u32, sequence: u32) -> Taken
+        requires { self.old.totals.entries < most_entries }
+        ensures stands { (l : Room) (items : List Item) (d : Given) → stream_in stream ≡ stream_of d
+            → IsAt d at uptime sequence → StandsFor self.old l items
+            → StandsFor self.new l (Got (with_samples d []) ∷ items) }
+        ensures answer { (l : Room) (items : List Item) (d : Given) → stream_in stream ≡ stream_of d
+            → IsAt d at uptime sequence → StandsFor self.old l items
+            → taken_in_books result ≡ taken_now l items (Got d) }
+    {
+        self.totals.entries += 1;
+        let taken = self.streams.take(
+            stream,
+            self.limits.datagram_width,
+            self.limits.boot_slack,
+            at,
+            uptime,
+            sequence,
+        );
+        if taken == Taken::Unlisted {
+            self.totals.unlisted += 1;
+        }
+        taken
+    }
+
+    // Enters the samples of a datagram that was taken as though it had none.
+    fn enter_samples(&mut self, stream: StreamKey, mut samples: Samples<'_>)
+        requires midway { Midway self.old stream 0 }
+        requires few { length samples ≤ 8191 }
+        ensures stands { (l : Room) (items : List Item) (d : Given) → Enters l items stream d
+            → StandsFor self.old l (Got (with_samples d []) ∷ items)
+            → StandsFor self.new l (Got (with_samples d (samples_in (frame_trees samples_read samples.entry))) ∷ items) }
+    {
+        let boot = self.streams.boots(&stream);
+        while let Some(sample) = samples.next() {
+            self.enter_sample(stream, boot, &sample);
+        }
+    }
+
+    // Enters one sample more of the datagram, which is in this boot of its stream.
+    fn enter_sample(&mut self, stream: StreamKey, boot: u64, sample: &Sample<'_>)
+        requires midway { Midway self.old stream 8190 }
+        requires boot { (l : Room) (items : List Item) (d : Given) → Enters l items stream d
+            → StandsFor self.old l (Got d ∷ items) → boot ≡ boot_number l items d }
+        ensures stands { (l : Room) (items : List Item) (d : Given) (f : FrameView) → Enters l items stream d
+            → IsSampleOf f sample.now → StandsFor self.old l (Got d ∷ items)
+            → StandsFor self.new l (Got (with_sample d (sample_in (frame_tree samples_read f))) ∷ items) }
+    {
+        match read_sample(sample) {
+            Some(shown) => self.enter(stream, boot, shown),
+            None => self.totals.other += 1,
+        }
+    }
+
+    // The same of a sample whose format is read.
+    fn enter(&mut self, stream: StreamKey, boot: u64, shown: Shown)
+        requires midway { Midway self.old stream 8190 }
+        requires boot { (l : Room) (items : List Item) (d : Given) → Enters l items stream d
+            → StandsFor self.old l (Got d ∷ items) → boot ≡ boot_number l items d }
+        ensures stands { (l : Room) (items : List Item) (d : Given) → Enters l items stream d
+            → StandsFor self.old l (Got d ∷ items)
+            → StandsFor self.new l (Got (with_sample d (sample_shown (Some shown))) ∷ items) }
+    {
+        let key = SourceKey {
+            stream,
+            flow: shown.flow,
+            source: shown.source,
+        };
+        let width = self.limits.sample_width;
+        if !self.sources.enter(key, width, boot, shown.reading) {
+            self.totals.unlisted_samples += 1;
+        }
+    }
+
+    /// Takes an entry that is no datagram, with its first fault, as the next one: `Malformed`, and it is counted; or
+    /// `Spent`, exactly where 2^48 entries were taken before, and then nothing changes. It takes no memory.
+    pub fn reject(&mut self, fault: &Fault) -> Taken
+        ensures stands { (l : Room) (items : List Item) → length items < most_entries → StandsFor self.old l items
+            → StandsFor self.new l (Faulty fault.now ∷ items) }
+        ensures answer { (l : Room) (items : List Item) → StandsFor self.old l items
+            → taken_in_books result ≡ taken l items (Faulty fault.now) }
+        ensures spent { (l : Room) (items : List Item) → most_entries ≤ length items → StandsFor self.old l items
+            → self.new ≡ self.old }
+    {
+        if self.totals.entries >= MOST_ENTRIES {
+            return Taken::Spent;
+        }
+        self.totals.entries += 1;
+        self.totals.malformed += 1;
+        if self.totals.first_fault.is_none() {
+            self.totals.first_fault = Some(FirstFault {
+                entry: self.totals.entries,
+                fault: *fault,
+            });
+        }
+        Taken::Malformed
+    }
+
+    /// How many streams are listed.
+    pub fn stream_count(&self) -> usize
+        ensures streams { (l : Room) (items : List Item) → StandsFor self.now l items
+            → result ≡ length (listed_streams l items) }
+        ensures limit { result ≤ self.now.limits.streams }
+    {
+        self.streams.len()
+    }
+
+    /// What is shown of the stream at a place, from 0 on in order of first arrival; `None` exactly past the end.
+    pub fn stream(&self, place: usize) -> Option<StreamView>
+        ensures view { (l : Room) (items : List Item) → StandsFor self.now l items
+            → option_map stream_shown result ≡ slice_get (books l items).streams place }
+        ensures conserved { IfSome result (λ v. v.ledger.issued ≡ v.ledger.received + v.ledger.pending + v.ledger.lost) }
+    {
+        let (key, record) = self.streams.get(place)?;
+        Some(StreamView {
+            agent: key.agent,
+            sub_agent: key.sub_agent,
+            boots: record.boots(),
+            ledger: record.view(),
+            stale: record.stale(),
+        })
+    }
+
+    /// How many sources are listed.
+    pub fn source_count(&self) -> usize
+        ensures sources { (l : Room) (items : List Item) → StandsFor self.now l items
+            → result ≡ length (listed_sources l items) }
+        ensures limit { result ≤ self.now.limits.sources }
+    {
+        self.sources.len()
+    }
+
+    /// What is shown of the source at a place, from 0 on in order of first arrival; `None` exactly past the end.
+    pub fn source(&self, place: usize) -> Option<SourceView>
+        ensures view { (l : Room) (items : List Item) → StandsFor self.now l items
+            → option_map source_shown result ≡ slice_get (books l items).sources place }
+        ensures conserved { IfSome result (λ v. v.ledger.issued ≡ v.ledger.received + v.ledger.pending + v.ledger.lost) }
+    {
+        let (key, record) = self.sources.get(place)?;
+        let stream = self.streams.place(&key.stream)?;
+        let boots = self.streams.boots(&key.stream);
+        Some(SourceView {
+            stream: stream as u32 + 1,
+            flow: key.flow,
+            source: key.source,
+            ledger: record.view(boots),
+        })
+    }
+
+    /// The counts of all entries, exact after each call.
+    pub fn totals(&self) -> Totals
+        ensures { (l : Room) (items : List Item) → StandsFor self.now l items → totals_shown result ≡ totals l items }
+    {
+        self.totals
+    }
+}
+
+/// The counts before any entry.
+const NO_TOTALS: Totals = Totals {
+    entries: 0,
+    malformed: 0,
+    unlisted: 0,
+    unlisted_samples: 0,
+    other: 0,
+    first_fault: None,
+};

@@ -1,0 +1,65 @@
+ghost use Rattle.std.specs.Prelude.{◌≡◌, Some};
+ghost use Rattle.data_format.specs.Views.{FrameView};
+ghost use Rattle.data_format.specs.Trees.{frame_tree};
+ghost use Rattle.datagram_core.specs.Samples.{IsSampleOf};
+ghost use Rattle.datagram_core.specs.Tables.{samples_read};
+ghost use Rattle.flow_collector.specs.Items.{sample_in};
+ghost use Rattle.flow_collector.specs.Shown.{sample_shown, flow_of, counters_of};
+
+use data_format::{CountersHead, FlowHead, SourceId};
+use datagram_core::Sample;
+use stream_books::SampleReading;
+
+/// What a sample shows: its source within a stream, and its reading.
+#[derive(Debug, Clone, Copy)]
+pub struct Shown {
+    /// Whether it is a flow sample, else a counters sample.
+    pub flow: bool,
+    /// What was sampled or counted.
+    pub source: SourceId,
+    pub reading: SampleReading,
+}
+
+/// What a sample shows; `None` exactly where its format isn't read.
+pub fn read_sample(sample: &Sample<'_>) -> Option<Shown>
+    ensures { (f : FrameView) → IsSampleOf f sample.now
+        → sample_shown result ≡ sample_in (frame_tree samples_read f) }
+{
+    match sample {
+        Sample::Flow(s) => Some(flow_shown(&s.head())),
+        Sample::Counters(s) => Some(counters_shown(&s.head())),
+        Sample::FlowX(s) => Some(flow_shown(&s.head())),
+        Sample::CountersX(s) => Some(counters_shown(&s.head())),
+        Sample::Other(_) => None,
+    }
+}
+
+fn flow_shown(head: &FlowHead) -> Shown
+    ensures { sample_shown (Some result) ≡ flow_of head.now }
+{
+    Shown {
+        flow: true,
+        source: head.source,
+        reading: SampleReading {
+            sequence: head.sequence,
+            pool: head.pool,
+            drops: head.drops,
+            rate: head.rate,
+        },
+    }
+}
+
+fn counters_shown(head: &CountersHead) -> Shown
+    ensures { sample_shown (Some result) ≡ counters_of head.now }
+{
+    Shown {
+        flow: false,
+        source: head.source,
+        reading: SampleReading {
+            sequence: head.sequence,
+            pool: 0,
+            drops: 0,
+            rate: 0,
+        },
+    }
+}

@@ -1,0 +1,85 @@
+-- The lines of the report, from the books. Each ends with a line feed.
+use Rattle.std.specs.Prelude.{ℕ, Bool, true, false, List, [], ◌∷◌, Option, Some, None, codes, decimal}
+use Rattle.std.specs.List.{concat}
+use Rattle.wire_spec.specs.Texts.{address_text}
+use Rattle.wire_spec.specs.declared.fault.Fault.{Fault}
+use Rattle.wire_spec.specs.FaultNames.{fault_name}
+use Rattle.books_spec.specs.Books.{StreamBooks, SourceBooks, FirstFault, Totals}
+
+-- the line of the stream with this number
+unfoldable pub stream_text : ℕ → StreamBooks → List ℕ
+stream_text number s = concat (
+    codes "stream " ∷ decimal number ∷
+    codes " agent " ∷ address_text s.stream.agent ∷
+    codes " sub " ∷ decimal s.stream.sub_agent ∷
+    codes " boots " ∷ decimal s.boots ∷
+    codes " issued " ∷ decimal s.view.figures.issued ∷
+    codes " received " ∷ decimal s.view.figures.received ∷
+    codes " pending " ∷ decimal s.view.figures.pending ∷
+    codes " lost " ∷ decimal s.view.figures.lost ∷
+    codes " repeated " ∷ decimal s.view.figures.repeated ∷
+    codes " late " ∷ decimal s.view.figures.late ∷
+    codes " stale " ∷ decimal s.stale ∷
+    codes "\n" ∷ [])
+
+-- the line of a source of flow samples
+unfoldable pub flow_text : SourceBooks → List ℕ
+flow_text s = concat (
+    codes "source " ∷ decimal s.stream ∷
+    codes " flow " ∷ decimal s.id.class ∷
+    codes ":" ∷ decimal s.id.index ∷
+    codes " issued " ∷ decimal s.view.figures.issued ∷
+    codes " received " ∷ decimal s.view.figures.received ∷
+    codes " pending " ∷ decimal s.view.figures.pending ∷
+    codes " lost " ∷ decimal s.view.figures.lost ∷
+    codes " repeated " ∷ decimal s.view.figures.repeated ∷
+    codes " late " ∷ decimal s.view.figures.late ∷
+    codes " pool " ∷ decimal s.view.pool ∷
+    codes " drops " ∷ decimal s.view.drops ∷
+    codes " rate " ∷ decimal s.view.rate ∷
+    codes "\n" ∷ [])
+
+-- the line of a source of counters samples
+unfoldable pub counters_text : SourceBooks → List ℕ
+counters_text s = concat (
+    codes "source " ∷ decimal s.stream ∷
+    codes " counters " ∷ decimal s.id.class ∷
+    codes ":" ∷ decimal s.id.index ∷
+    codes " issued " ∷ decimal s.view.figures.issued ∷
+    codes " received " ∷ decimal s.view.figures.received ∷
+    codes " pending " ∷ decimal s.view.figures.pending ∷
+    codes " lost " ∷ decimal s.view.figures.lost ∷
+    codes " repeated " ∷ decimal s.view.figures.repeated ∷
+    codes " late " ∷ decimal s.view.figures.late ∷
+    codes "\n" ∷ [])
+
+abbrev pub kind_text : Bool → SourceBooks → List ℕ
+kind_text true s = flow_text s
+kind_text false s = counters_text s
+
+-- the line of a source
+abbrev pub source_text : SourceBooks → List ℕ
+source_text s = kind_text s.id.flow s
+
+-- the line of a fault, which is that of the entry with this number
+unfoldable pub fault_line : ℕ → Fault → List ℕ
+fault_line number f = concat (
+    codes "fault entry " ∷ decimal number ∷
+    codes " at " ∷ decimal f.at ∷
+    codes " kind " ∷ fault_name f.kind ∷
+    codes "\n" ∷ [])
+
+-- the line of the first fault, and nothing where no entry was malformed
+abbrev pub first_fault_text : Option FirstFault → List ℕ
+first_fault_text None = []
+first_fault_text (Some f) = fault_line f.entry f.fault
+
+-- the last line
+unfoldable pub total_text : Totals → List ℕ
+total_text t = concat (
+    codes "total entries " ∷ decimal t.entries ∷
+    codes " malformed " ∷ decimal t.malformed ∷
+    codes " unlisted " ∷ decimal t.unlisted ∷
+    codes " unlisted_samples " ∷ decimal t.unlisted_samples ∷
+    codes " other " ∷ decimal t.other ∷
+    codes " taps_ended 0\n" ∷ [])

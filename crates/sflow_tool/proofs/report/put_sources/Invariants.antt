@@ -1,0 +1,16 @@
+-- The lines so far were put, and no call has failed.
+use Rattle.std.proofs.Common.{◌≡◌, List, take}
+use Rattle.books_spec.specs.Items.{Item, Limits as Room}
+use Rattle.books_spec.specs.Books.{books}
+use Rattle.flow_collector.specs.Collectors.{StandsFor}
+use Rattle.text_lines.specs.Pages.{Puts}
+use Rattle.report_lines.specs.Reports.{source_texts}
+use Rattle.sflow_tool.proofs.report.put_sources.Given as goal
+
+abbrev pub invariant-loop-place : goal.invariant-loop-place
+invariant-loop-place g l = record {
+  put : (l' : Room) (items : List Item) → StandsFor l.collector l' items
+      → Puts (g.K.Sink.taken l.initial.sink) (g.K.Sink.taken l.sink) l.initial.page l.page
+      (source_texts (take l.place (books l' items).sources));
+  kept : g.K.Sink.faults l.sink ≡ g.K.Sink.faults l.initial.sink;
+}
