@@ -1,6 +1,9 @@
 use crate::ListWindow;
+use collector_tables::{SourceKey, StreamKey};
 use late_window::Window;
+use std::mem::size_of;
 use std::process::Abort;
+use stream_books::{SourceRecord, StreamRecord};
 
 const WIDTHS: [u32; 7] = [1, 2, 63, 64, 65, 1023, 1024];
 
@@ -51,11 +54,10 @@ struct Pair {
 impl Pair {
     fn open(rt: &impl Abort, width: u32) -> Pair {
         assert!(rt; width >= 1 && width <= 1024);
-        Pair {
-            width,
-            ring: Window::open(width),
-            list: ListWindow::open(width),
-        }
+        let ring = Window::open(width);
+        let list = ListWindow::open(width);
+        assert_eq!(rt; shown_by_ring(&ring), shown_by_list(&list), "no mark at width {width}");
+        Pair { width, ring, list }
     }
 
     // Enters a mark into both, and compares the answers and all that is shown then.
@@ -65,8 +67,8 @@ impl Pair {
         let answer = self.ring.enter(mark);
         let want = self.list.enter(mark);
         assert_eq!(rt; answer, want, "mark {mark} at width {width}");
-        let shown = shown_by_ring(&self.ring);
-        assert_eq!(rt; shown, shown_by_list(&self.list), "mark {mark} at width {width}");
+        let shown = shown_by_list(&self.list);
+        assert_eq!(rt; shown_by_ring(&self.ring), shown, "mark {mark} at width {width}");
     }
 
     // The mark of the newest number; 0 where none was entered.
@@ -164,4 +166,16 @@ fn ring_and_list_agree_on_made_marks(rt: HostRuntime) {
             pair.enter(&rt, mark);
         }
     }
+}
+
+// What a collector keeps of a stream and of a source, in bytes, with the key under which it is kept. A list of
+// numbers is too large for either.
+#[test]
+fn sizes_of_a_stream_and_a_source(rt: HostRuntime) {
+    let stream = size_of::<StreamKey>() + size_of::<StreamRecord>();
+    let source = size_of::<SourceKey>() + size_of::<SourceRecord>();
+    let list = size_of::<ListWindow>();
+    assert!(rt; stream <= 512, "a stream takes {stream}");
+    assert!(rt; source <= 1024, "a source takes {source}");
+    assert!(rt; list > 1024, "a list takes {list}");
 }
