@@ -51,16 +51,21 @@ near-computed : (newest n : ℤ) → pos 0 ≤ℤ newest → newest ≤ℤ pos (
     → (newest -ℤ pos 2147483648) ≤ℤ n → n <ℤ (newest +ℤ pos 2147483648) → in_128 n ≡ n
 near-computed newest n from to low high = omega (arith, ints)
 
+-- a number near the newest
+pub number-in_128 : (w : Inside) (n : ℤ) → IsListWindow w → (w.newest -ℤ pos 2147483648) ≤ℤ n
+    → n <ℤ (w.newest +ℤ pos 2147483648) → in_128 n ≡ n
+number-in_128 w n keeps low high =
+    let few : w.entered ≤ 2 ^ 62 = keeps.few in
+    let to : w.newest ≤ℤ pos (2 ^ 32 * w.entered) = keeps.newest_to in
+    near-computed w.newest n keeps.newest_from (omega (arith, ints)) low high
+
 -- the number that `nearest` answers
 pub number-computed : (w : Inside) (mark : ℕ) (n : ℤ) → IsListWindow w → n ≡ near mark (in_128 w.newest)
     → near mark w.newest ≡ in_128 n
 number-computed w mark n keeps is =
     let same : n ≡ near mark w.newest = is ∙ ap (near mark) (newest-computed w keeps) in
-    let few : w.entered ≤ 2 ^ 62 = keeps.few in
-    let to : w.newest ≤ℤ pos (2 ^ 32 * w.entered) = keeps.newest_to in
     sym (ap (λ (m : ℤ). in_128 m) same
-    ∙ near-computed w.newest (near mark w.newest) keeps.newest_from (omega (arith, ints))
-    (near-from mark w.newest) (near-below mark w.newest))
+    ∙ number-in_128 w (near mark w.newest) keeps (near-from mark w.newest) (near-below mark w.newest))
 
 -- ---- what is compared
 

@@ -56,7 +56,11 @@ impl Pair {
         assert!(rt; width >= 1 && width <= 1024);
         let ring = Window::open(width);
         let list = ListWindow::open(width);
-        assert_eq!(rt; shown_by_ring(&ring), shown_by_list(&list), "no mark at width {width}");
+        assert_eq!(rt;
+            shown_by_ring(&ring),
+            shown_by_list(&list),
+            "no mark at width {width}"
+        );
         Pair { width, ring, list }
     }
 
@@ -68,7 +72,11 @@ impl Pair {
         let want = self.list.enter(mark);
         assert_eq!(rt; answer, want, "mark {mark} at width {width}");
         let shown = shown_by_list(&self.list);
-        assert_eq!(rt; shown_by_ring(&self.ring), shown, "mark {mark} at width {width}");
+        assert_eq!(rt;
+            shown_by_ring(&self.ring),
+            shown,
+            "mark {mark} at width {width}"
+        );
     }
 
     // The mark of the newest number; 0 where none was entered.
@@ -88,7 +96,10 @@ fn jump(rt: &impl Abort, width: u32, filled: u32, start: u32, by: u32) {
     pair.enter(rt, far);
     let newest = pair.newest();
     for nearer in 0..width.saturating_add(2) {
-        pair.enter(rt, newest.wrapping_sub(width.saturating_add(1).saturating_sub(nearer)));
+        pair.enter(
+            rt,
+            newest.wrapping_sub(width.saturating_add(1).saturating_sub(nearer)),
+        );
     }
 }
 

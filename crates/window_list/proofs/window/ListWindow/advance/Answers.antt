@@ -4,6 +4,7 @@ use Rattle.std.specs.Int.{w128}
 use Rattle.std.proofs.lemmas.Int.{ints}
 use Rattle.window_list.specs.Fields.{IsListWindow}
 use Rattle.window_list.specs.declared.window.ListWindow.TheInside.{Inside}
+use Rattle.window_list.proofs.Computed.{number-in_128}
 use Rattle.window_list.proofs.Kept.{room-above, list-moved, advanced}
 use Rattle.window_list.proofs.window.ListWindow.advance.Goals as goal
 
@@ -19,11 +20,7 @@ floor-fits w n keeps above near =
 
 number-fits : (w : Inside) (n : ℤ) → IsListWindow w → w.newest <ℤ n → n <ℤ (w.newest +ℤ pos (2 ^ 31))
     → to_z w128 (of_z w128 n) ≡ n
-number-fits w n keeps above near =
-    let few : w.entered ≤ 2 ^ 62 = keeps.few in
-    let up : pos 0 ≤ℤ w.newest = keeps.newest_from in
-    let top : w.newest ≤ℤ pos (2 ^ 32 * w.entered) = keeps.newest_to in
-    omega (arith, ints)
+number-fits w n keeps above near = number-in_128 w n keeps (omega (arith, ints)) near
 
 step-is : (newest n : ℤ) → newest <ℤ n → n ≡ (newest +ℤ pos (unsigned_abs (n -ℤ newest)))
 step-is newest n above = omega (arith, ints)

@@ -1,9 +1,10 @@
-use Rattle.std.proofs.Common.{rules, refl, arith, to_z, of_z, ℤ, ◌+◌, ◌*◌, ◌<◌, ◌≤◌, ◌^◌, ◌≡◌, pos, ◌-ℤ◌, ◌<ℤ◌, ◌≤ℤ◌}
+use Rattle.std.proofs.Common.{rules, refl, arith, to_z, of_z, ℤ, ◌+◌, ◌<◌, ◌≤◌, ◌^◌, ◌≡◌, pos, ◌-ℤ◌, ◌<ℤ◌, ◌≤ℤ◌}
 use Rattle.std.specs.Prelude.{unsigned_abs}
 use Rattle.std.specs.Int.{w128}
 use Rattle.std.proofs.lemmas.Int.{ints}
 use Rattle.window_list.specs.Fields.{span_of, IsListWindow}
 use Rattle.window_list.specs.declared.window.ListWindow.TheInside.{Inside}
+use Rattle.window_list.proofs.Computed.{number-in_128}
 use Rattle.window_list.proofs.Kept.{room-below, list-more, extended}
 use Rattle.window_list.proofs.window.ListWindow.extend.Goals as goal
 
@@ -15,11 +16,8 @@ number-fits : (w : Inside) (n : ℤ) → IsListWindow w → (w.newest -ℤ pos w
     → to_z w128 (of_z w128 n) ≡ n
 number-fits w n keeps floor below =
     let to : w.width ≤ 1024 = keeps.width_to in
-    let few : w.entered ≤ 2 ^ 62 = keeps.few in
-    let up : pos 0 ≤ℤ w.newest = keeps.newest_from in
-    let top : w.newest ≤ℤ pos (2 ^ 32 * w.entered) = keeps.newest_to in
     let order : w.least ≤ℤ w.newest = keeps.order in
-    omega (arith, ints)
+    number-in_128 w n keeps (omega (arith, ints)) (omega (arith, ints))
 
 pub push-requires : goal.push-requires
 push-requires c =

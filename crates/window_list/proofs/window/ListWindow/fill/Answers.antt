@@ -1,4 +1,4 @@
-use Rattle.std.proofs.Common.{rules, refl, sym, ◌∙◌, ap, arith, false, to_z, of_z, ℤ, ◌+◌, ◌*◌, ◌<◌, ◌≤◌, ◌^◌, ◌≡◌, pos, ◌-ℤ◌, ◌<ℤ◌, ◌≤ℤ◌}
+use Rattle.std.proofs.Common.{rules, refl, sym, ◌∙◌, ap, arith, false, to_z, of_z, ℤ, ◌+◌, ◌<◌, ◌≤◌, ◌^◌, ◌≡◌, pos, ◌-ℤ◌, ◌<ℤ◌, ◌≤ℤ◌}
 use Rattle.std.specs.Prelude.{unsigned_abs}
 use Rattle.std.specs.Int.{w128}
 use Rattle.std.proofs.lemmas.Int.{ints}
@@ -7,6 +7,7 @@ use Rattle.late_window.specs.States.{is_recent}
 use Rattle.window_list.specs.Fields.{span_of, window_state, IsListWindow}
 use Rattle.window_list.specs.declared.window.ListWindow.TheInside.{Inside}
 use Rattle.window_list.proofs.Recent.{recent-held}
+use Rattle.window_list.proofs.Computed.{number-in_128}
 use Rattle.window_list.proofs.Kept.{room-beside, list-more, filled}
 use Rattle.window_list.proofs.window.ListWindow.fill.Goals as goal
 
@@ -18,10 +19,7 @@ number-fits : (w : Inside) (n : ℤ) → IsListWindow w → (w.newest -ℤ pos w
     → to_z w128 (of_z w128 n) ≡ n
 number-fits w n keeps floor high =
     let to : w.width ≤ 1024 = keeps.width_to in
-    let few : w.entered ≤ 2 ^ 62 = keeps.few in
-    let up : pos 0 ≤ℤ w.newest = keeps.newest_from in
-    let top : w.newest ≤ℤ pos (2 ^ 32 * w.entered) = keeps.newest_to in
-    omega (arith, ints)
+    number-in_128 w n keeps (omega (arith, ints)) (omega (arith, ints))
 
 -- a number that isn't shown as counted isn't in the list
 not-listed : (w : Inside) (n : ℤ) → (w.newest -ℤ pos w.width) <ℤ n → n ≤ℤ w.newest
