@@ -85,21 +85,28 @@ impl Pair {
     }
 }
 
-// The numbers of a window follow each other; then a mark comes from far ahead or far behind; then each number that
-// may still be within the width, from the farthest to the newest.
-fn jump(rt: &impl Abort, width: u32, filled: u32, start: u32, by: u32) {
+// The marks that come before a jump: so many from the first on, each so much above the one before.
+#[derive(Clone, Copy)]
+struct Run {
+    first: u32,
+    count: u32,
+    gap: u32,
+}
+
+// After a run of marks, one comes from far ahead or far behind; then each number that may still be within the width,
+// from the farthest to the newest.
+fn jump(rt: &impl Abort, width: u32, run: Run, by: u32) {
     let mut pair = Pair::open(rt, width);
-    for further in 0..filled {
-        pair.enter(rt, start.wrapping_add(further));
+    let mut mark = run.first;
+    for _entered in 0..run.count {
+        pair.enter(rt, mark);
+        mark = mark.wrapping_add(run.gap);
     }
     let far = pair.newest().wrapping_add(by);
     pair.enter(rt, far);
-    let newest = pair.newest();
+    let farthest = pair.newest().wrapping_sub(width).wrapping_sub(1);
     for nearer in 0..width.saturating_add(2) {
-        pair.enter(
-            rt,
-            newest.wrapping_sub(width.saturating_add(1).saturating_sub(nearer)),
-        );
+        pair.enter(rt, farthest.wrapping_add(nearer));
     }
 }
 
@@ -119,10 +126,11 @@ fn ring_and_list_agree_after_jumps(rt: HostRuntime) {
             2147483648,
         ];
         for by in jumps {
-            for start in [0, 5, 4294967295] {
-                for filled in [1, width] {
-                    jump(&rt, width, filled, start, by);
-                    jump(&rt, width, filled, start, 0u32.wrapping_sub(by));
+            for first in [0, 5, 4294967295] {
+                for (count, gap) in [(1, 1), (width, 1), (width, 3)] {
+                    let run = Run { first, count, gap };
+                    jump(&rt, width, run, by);
+                    jump(&rt, width, run, 0u32.wrapping_sub(by));
                 }
             }
         }
