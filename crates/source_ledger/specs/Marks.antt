@@ -15,7 +15,7 @@ pub record MarksState : Type 0 where
   pub boot : ℕ
   -- how many marks were entered
   pub entered : ℕ
-  -- the numbers issued in the boots before, how many of them were received, and how many are lost
+  -- how many numbers were issued in the boots before, how many of them were received, and how many are lost
   pub issued : ℕ
   pub received : ℕ
   pub lost : ℕ

@@ -14,16 +14,17 @@ use std::marker::Model;
 /// The marks of one stream or source over its boots: a window for the boot that was entered last, and sums.
 #[derive(Debug, Drop)]
 pub struct MarkLedger {
+    /// The width of each boot's window.
     width: u32,
     /// The number of the boot that was entered last; 0 where there is none.
     boot: u64,
     /// How many marks were entered.
     entered: u64,
-    /// The numbers issued in the boots before the last.
+    /// How many numbers were issued in the boots before the last.
     issued: u128,
     /// How many of them were received.
     received: u64,
-    /// How many of them are lost, what was pending when their boot ended among them.
+    /// How many of them are lost, with those that were pending when their boot ended.
     lost: u128,
     /// How many marks of all boots brought a number once more.
     repeated: u64,

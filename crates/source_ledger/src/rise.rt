@@ -11,7 +11,7 @@ pub struct Rise {
     pub total: u128,
     /// The value at the greatest number of the last boot; 0 where there is none.
     pub at_greatest: u32,
-    /// The value at the least number of the last boot, alike.
+    /// The value at the least number of the last boot; 0 where there is none.
     pub at_least: u32,
 }
 
@@ -27,7 +27,7 @@ impl Rise {
         }
     }
 
-    /// The value of a number that a window answered so. What steps over 2^32 goes on from 0.
+    /// Enters the value that a number shows, by the window's answer to it. Values go on from 2^32 - 1 to 0.
     pub fn enter(&mut self, answer: Entered, value: u32)
         requires few { self.old.total < 2 ^ 100 }
         ensures risen { self.new ≡ risen self.old (answer_of answer) value }

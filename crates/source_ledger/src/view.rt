@@ -1,11 +1,11 @@
 /// What a ledger shows: sums over all boots.
 #[derive(Debug, Clone, Copy, PartialEq, Eq)]
 pub struct LedgerView {
-    /// The numbers issued, from the least to the greatest counted one of each boot.
+    /// How many numbers were issued, from the least to the greatest counted one of each boot.
     pub issued: u128,
     /// How many of them were counted.
     pub received: u64,
-    /// How many of the current boot weren't counted, and still may be.
+    /// How many numbers of the current boot weren't counted, and still may be.
     pub pending: u32,
     /// How many others weren't counted.
     pub lost: u128,
@@ -15,7 +15,7 @@ pub struct LedgerView {
     pub late: u64,
     /// The rise of the sample pool, in packets: from the least to the greatest counted number of each boot.
     pub pool: u128,
-    /// The rise of the drops, alike.
+    /// The rise of the drops, in packets, likewise.
     pub drops: u128,
     /// The sampling rate at the greatest counted number of the last boot that has one: one of so many packets.
     pub rate: u32,
