@@ -1,8 +1,8 @@
 // What `replay` reports of captures that are put together from datagrams of one agent.
-use crate::tests::words;
-use sflow_tool::{MemorySink, MemorySource, Seeds, Status, run};
+use crate::tests::{seeds, words};
+use sflow_tool::{MemorySink, MemorySource, Status, run};
 use std::alloc::Global;
-use std::hash::RandomState;
+use std::random::RandomSource;
 use std::test::Fail;
 
 // A flow sample of source 0:5 in the compact form, with a rate of 256.
@@ -88,16 +88,9 @@ fn put_entry(bytes: &mut Vec<u8>, sent: &Sent) -> Result<(), Fail> {
     Ok(())
 }
 
-fn seeds(rt: &impl std::random::RandomSource) -> Result<Seeds, Fail> {
-    Ok(Seeds {
-        streams: RandomState::new(rt)?,
-        sources: RandomState::new(rt)?,
-    })
-}
-
 // The report of the capture of these datagrams.
 fn try_row(
-    rt: &(impl std::process::Abort + std::random::RandomSource),
+    rt: &(impl std::process::Abort + RandomSource),
     alloc: Global,
     texts: &[&str],
     sent: &[Sent],

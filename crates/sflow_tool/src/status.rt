@@ -94,6 +94,5 @@ fn kind_name(kind: InputKind) -> &'static str
         InputKind::Long => "long",
         InputKind::Padding => "padding",
         InputKind::Script => "script",
-        InputKind::Unbuilt => "unbuilt",
     }
 }
