@@ -1,4 +1,5 @@
 use crate::{CounterLedger, FlowLedger, LedgerView, StreamLedger};
+use std::process::Abort;
 
 fn figures(issued: u128, received: u64, pending: u32, lost: u128, again: [u64; 2]) -> LedgerView {
     LedgerView {
@@ -15,17 +16,14 @@ fn figures(issued: u128, received: u64, pending: u32, lost: u128, again: [u64; 2
 }
 
 // The view at this boot of a ledger that these marks were entered into, each with its boot.
-fn stream_view(marks: &[(u64, u32)], boot: u64) -> Option<LedgerView> {
+fn stream_view(rt: &impl Abort, marks: &[(u64, u32)], boot: u64) -> LedgerView {
     let mut ledger = StreamLedger::open(64);
     for (boot, mark) in marks {
-        if *boot >= 1 && *boot >= ledger.boot() && ledger.entered() < 9 {
-            ledger.enter(*boot, *mark);
-        }
+        assert!(rt; *boot >= 1 && *boot >= ledger.boot() && ledger.entered() < 9);
+        ledger.enter(*boot, *mark);
     }
-    if boot < ledger.boot() {
-        return None;
-    }
-    Some(ledger.view(boot))
+    assert!(rt; boot >= ledger.boot());
+    ledger.view(boot)
 }
 
 #[test]
@@ -51,8 +49,8 @@ fn worked_streams(rt: HostRuntime) {
     ];
     for (marks, boot, want) in rows {
         assert_eq!(rt;
-            stream_view(marks, boot),
-            Some(want),
+            stream_view(&rt, marks, boot),
+            want,
             "of {marks:?} at {boot}"
         );
     }
@@ -75,17 +73,14 @@ struct Sample(u32, u32, u32, u32);
 
 // The view at this boot of a ledger that these samples were entered into, each with its boot. A sample is its
 // sequence word, pool, drops and rate.
-fn flow_view(samples: &[(u64, Sample)], boot: u64) -> Option<LedgerView> {
+fn flow_view(rt: &impl Abort, samples: &[(u64, Sample)], boot: u64) -> LedgerView {
     let mut ledger = FlowLedger::open(1024);
     for (boot, Sample(mark, pool, drops, rate)) in samples {
-        if *boot >= 1 && *boot >= ledger.boot() && ledger.entered() < 9 {
-            ledger.enter(*boot, *mark, *pool, *drops, *rate);
-        }
+        assert!(rt; *boot >= 1 && *boot >= ledger.boot() && ledger.entered() < 9);
+        ledger.enter(*boot, *mark, *pool, *drops, *rate);
     }
-    if boot < ledger.boot() {
-        return None;
-    }
-    Some(ledger.view(boot))
+    assert!(rt; boot >= ledger.boot());
+    ledger.view(boot)
 }
 
 fn flows(received: u64, repeated: u64, pool: u128, drops: u128, rate: u32) -> LedgerView {
@@ -127,8 +122,8 @@ fn worked_flows(rt: HostRuntime) {
     ];
     for (samples, boot, want) in rows {
         assert_eq!(rt;
-            flow_view(samples, boot),
-            Some(want),
+            flow_view(&rt, samples, boot),
+            want,
             "of {samples:?} at {boot}"
         );
     }
