@@ -1,34 +1,55 @@
 #!/usr/bin/env bash
-# Times `sflow check` over made captures, beside `wc`, a plain copy and, where there is a C compiler, the walk of
-# bench/walk.c. The figures are those of one run on one machine.
+# Times the commands over made captures, beside `wc`, a plain copy and, where there is a C compiler, a plain walk in C:
+# walk.c, and for `replay` gaps.c. The figures are those of one run on one machine.
 #   bench/run.sh [FOLDER]
 # FOLDER keeps the captures for further runs; by default it is sflow-bench in the system's temporary folder.
-# SFLOW_BENCH_BYTES is the size of a capture (200,000,000), SFLOW_BENCH_COMMAND what is timed (./sflow check).
+# SFLOW_BENCH_BYTES is the size of the large captures (256,000,000: 200,000 datagrams of about six flow samples).
 set -eu
 cd "$(dirname "${BASH_SOURCE[0]}")/.."
 folder=${1:-${TMPDIR:-/tmp}/sflow-bench}
-size=${SFLOW_BENCH_BYTES:-200000000}
-command=${SFLOW_BENCH_COMMAND:-./sflow check}
+size=${SFLOW_BENCH_BYTES:-256000000}
 mkdir -p "$folder"
 copies=$folder
 if [ -w /dev/shm ]; then copies=/dev/shm; fi
 copy=$(mktemp "$copies/sflow-copy.XXXXXX")
-trap 'rm -f "$copy"' EXIT
+trap 'rm -f "$copy" "$copy.out"' EXIT
 
 # The first call builds the program.
-$command < examples/first.sflc > /dev/null
+./sflow check < examples/first.sflc > /dev/null
 
-walk=
+walks=
 if command -v cc > /dev/null; then
-  walk=$folder/walk
-  cc -O2 -o "$walk" bench/walk.c
+  cc -O2 -o "$folder/walk" bench/walk.c
+  cc -O2 -o "$folder/gaps" bench/gaps.c
+  walks=$folder
 fi
 
-for kind in plain flows; do
-  capture=$folder/$kind-$size.sflc
+# A capture of a kind, of so many bytes and streams.
+made() {
+  capture=$folder/$1-$2-$3.sflc
   if [ ! -e "$capture" ]; then
-    python3 bench/make_capture.py 1 "$size" "$kind" "$capture.part"
+    python3 bench/make_capture.py 1 "$2" "$1" "$capture.part" --streams "$3"
     mv "$capture.part" "$capture"
   fi
-  python3 bench/measure.py "$capture" "$copy" "$command" ${walk:+"$walk"}
+}
+
+measure() {
+  python3 bench/measure.py "$capture" "$copy" "./sflow $1" ${walks:+"$walks/$2"}
+}
+
+made plain "$size" 8
+measure check walk
+made flows "$size" 8
+for command in check show canon; do measure "$command" walk; done
+measure replay gaps
+
+# The cost of a datagram and the peak memory at the greatest limits, from one stream to 4,096 and over longer captures.
+greatest="replay --streams 4096 --sources 65536 --datagram-width 1024"
+for streams in 1 256 4096; do
+  made flows "$size" "$streams"
+  measure "$greatest" gaps
+done
+for bytes in 12800000 1280000000; do
+  made flows "$bytes" 256
+  measure "$greatest" gaps
 done
