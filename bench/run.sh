@@ -14,8 +14,10 @@ if [ -w /dev/shm ]; then copies=/dev/shm; fi
 copy=$(mktemp "$copies/sflow-copy.XXXXXX")
 trap 'rm -f "$copy" "$copy.out"' EXIT
 
-# The first call builds the program.
+# The first call builds the program, which is then called without the script around it.
 ./sflow check < examples/first.sflc > /dev/null
+ln -sf "$PWD/crates/sflow_cli/out/sflow_cli" "$folder/sflow"
+PATH=$folder:$PATH
 
 walks=
 if command -v cc > /dev/null; then
@@ -34,7 +36,7 @@ made() {
 }
 
 measure() {
-  python3 bench/measure.py "$capture" "$copy" "./sflow $1" ${walks:+"$walks/$2"}
+  python3 bench/measure.py "$capture" "$copy" "sflow $1" ${walks:+"$walks/$2"}
 }
 
 made plain "$size" 8
