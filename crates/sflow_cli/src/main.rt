@@ -1,17 +1,24 @@
 //! The program `sflow`: the commands over standard input and standard output.
 #![tactic(auto)]
 
-use sflow_tool::{InputSource, OutputSink, Status, run};
+use sflow_tool::{InputSource, OutputSink, Seeds, Status, run};
 use std::alloc::{AllocError, Global};
 use std::env::Env;
+use std::hash::RandomState;
 use std::process::ExitCode;
+use std::random::RandomSource;
 use std::{env, io};
 
+#[cfg(test)]
+mod replay_tests;
 #[cfg(test)]
 mod tests;
 
 // The exit code where the machine gives no list of words.
 const NO_WORDS: u8 = 9;
+
+// The exit code where the machine gives no random bytes.
+const NO_RANDOM_BYTES: u8 = 10;
 
 // Why there are no words.
 #[derive(Debug, Drop)]
@@ -44,6 +51,14 @@ fn words<R: Env + Alloc<A = Global>>(rt: &R) -> Result<Vec<String>, NoWords> {
     Ok(words)
 }
 
+// What the hashes of a collector's tables begin with, so that no stranger can choose keys of one hash.
+fn seeds(rt: &impl RandomSource) -> Result<Seeds, io::Error> {
+    Ok(Seeds {
+        streams: RandomState::new(rt)?,
+        sources: RandomState::new(rt)?,
+    })
+}
+
 // Says on standard error how the run ended, where there is something to say.
 fn report(rt: &impl Eprint, status: &Status) -> ExitCode {
     let text = status.text();
@@ -63,8 +78,12 @@ fn main(rt: HostRuntime) -> ExitCode {
             return ExitCode::from(NO_WORDS);
         }
     };
+    let Ok(seeds) = seeds(&rt) else {
+        let _ = eprintln!(rt; "sflow: no random bytes");
+        return ExitCode::from(NO_RANDOM_BYTES);
+    };
     let mut source = InputSource::new(rt);
     let mut sink = OutputSink::new(rt);
-    let status = run(rt.alloc(), &words, &mut source, &mut sink);
+    let status = run(rt.alloc(), &words, seeds, &mut source, &mut sink);
     report(&rt, &status)
 }
