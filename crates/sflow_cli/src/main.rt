@@ -10,12 +10,13 @@ use std::random::RandomSource;
 use std::{env, io};
 
 #[cfg(test)]
-mod collecting_tests;
+mod replay_tests;
 #[cfg(test)]
 mod tests;
 
 // The exit codes where the machine gives no list of words, and where it gives no random bytes.
 const NO_WORDS: u8 = 9;
+
 const NO_RANDOM_BYTES: u8 = 10;
 
 // Why something that a run needs couldn't be had.
@@ -49,8 +50,8 @@ fn words<R: Env + Alloc<A = Global>>(rt: &R) -> Result<Vec<String>, Lack> {
     Ok(words)
 }
 
-// What the tables of a collector are hashed with.
-fn seeds<R: RandomSource>(rt: &R) -> Result<Seeds, Lack> {
+// What the hashes of a collector's tables begin with, so that no stranger can choose keys of one hash.
+fn seeds(rt: &impl RandomSource) -> Result<Seeds, io::Error> {
     Ok(Seeds {
         streams: RandomState::new(rt)?,
         sources: RandomState::new(rt)?,
@@ -76,7 +77,7 @@ fn main(rt: HostRuntime) -> ExitCode {
             return ExitCode::from(NO_WORDS);
         }
     };
-    let seeds = match seeds(&rt) {
+    let seeds = match seeds(&rt).map_err(Lack::from) {
         Ok(seeds) => seeds,
         Err(Lack::Memory) => return report(&rt, &Status::Memory),
         Err(Lack::Machine) => {

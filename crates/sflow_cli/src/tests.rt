@@ -1,11 +1,12 @@
-use sflow_tool::{InputKind, Line, MemorySink, MemorySource, Seeds, Status, run};
+use crate::seeds;
+use sflow_tool::{InputKind, Line, MemorySink, MemorySource, Status, run};
 use std::alloc::Global;
-use std::hash::RandomState;
+use std::process::Abort;
 use std::random::RandomSource;
 use std::test::Fail;
 
 // The magic and version 1.
-const HEADER: [u8; 8] = *b"SFLC\0\0\0\x01";
+pub(crate) const HEADER: [u8; 8] = *b"SFLC\0\0\0\x01";
 
 // Arrival 1,000 ms, 28 bytes: version 5, agent 10.0.0.1, sub-agent 0, sequence number 1, uptime 1,000 ms, no samples.
 const ENTRY: [u8; 40] = [
@@ -69,14 +70,7 @@ pub(crate) fn words(alloc: Global, texts: &[&str]) -> Result<Vec<String>, Fail> 
     Ok(words)
 }
 
-pub(crate) fn seeds(rt: &impl RandomSource) -> Result<Seeds, Fail> {
-    Ok(Seeds {
-        streams: RandomState::new(rt)?,
-        sources: RandomState::new(rt)?,
-    })
-}
-
-pub(crate) fn joined(alloc: Global, parts: &[&[u8]]) -> Result<Vec<u8>, Fail> {
+fn joined(alloc: Global, parts: &[&[u8]]) -> Result<Vec<u8>, Fail> {
     let mut bytes = Vec::new(alloc);
     for part in parts {
         bytes.extend_from_slice(part)?;
@@ -140,11 +134,7 @@ fn bad_input(at: u128, kind: InputKind) -> Status {
     Status::BadInput { at, kind }
 }
 
-fn try_case(
-    rt: &(impl std::process::Abort + RandomSource),
-    alloc: Global,
-    case: &Case<'_>,
-) -> Result<(), Fail> {
+fn try_case(rt: &(impl Abort + RandomSource), alloc: Global, case: &Case<'_>) -> Result<(), Fail> {
     let words = words(alloc, case.words)?;
     let input = joined(alloc, case.input)?;
     let reads = Vec::from_slice(alloc, case.read_fails)?;
@@ -185,7 +175,7 @@ fn captures_are_replayed_in_any_pieces(rt: HostRuntime) -> Result<(), Fail> {
             ..PLAIN
         },
         Case {
-            name: "a second datagram of a stream",
+            name: "a datagram that comes twice",
             input: &[&HEADER, &ENTRY, &ENTRY],
             taken: "stream 1 agent 10.0.0.1 sub 0 boots 1 issued 1 received 1 pending 0 lost 0 repeated 1 late 0 stale 0\n\
                     total entries 2 malformed 0 unlisted 0 unlisted_samples 0 other 0 taps_ended 0\n",
@@ -473,7 +463,7 @@ fn status_of_a_beginning(length: usize) -> Status {
 }
 
 fn try_beginning(
-    rt: &(impl std::process::Abort + RandomSource),
+    rt: &(impl Abort + RandomSource),
     alloc: Global,
     bytes: &[u8],
     word: &str,
@@ -547,7 +537,7 @@ fn other_words_are_usage(rt: HostRuntime) -> Result<(), Fail> {
     Ok(())
 }
 
-fn try_status(rt: &impl std::process::Abort, status: Status, code: u8, text: &str) {
+fn try_status(rt: &impl Abort, status: Status, code: u8, text: &str) {
     let line: Line = status.text();
     assert_eq!(rt; status.code(), code);
     assert_eq!(rt; line.as_str().as_bytes(), text.as_bytes());
