@@ -4,3 +4,7 @@ pub mod Rows
 pub mod RecordRows
 pub mod RecordFrames
 pub mod Counts
+pub mod Puts
+pub mod Writing
+pub mod Frames
+pub mod WriterSteps
