@@ -8,3 +8,4 @@ pub mod Puts
 pub mod Writing
 pub mod Frames
 pub mod WriterSteps
+pub mod Again

@@ -79,7 +79,7 @@ closed_sample s tail = known s.format (Tree.structure (with_last_tree s.head (Tr
 -- a piece stands behind the first `len` bytes, up to n
 pub record Extends (old new : List ℕ) (len n : ℕ) (piece : List ℕ) : Type 0 where
   pub size : length new ≡ length old
-  pub len : n ≡ len + length piece
+  pub ends : n ≡ len + length piece
   pub whole : take n new ≡ take len old ++ piece
 
 -- a piece in place of as many bytes
