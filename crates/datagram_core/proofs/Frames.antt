@@ -1,5 +1,6 @@
 -- The frame of a record that is written.
-use Rattle.std.proofs.Common.{◌≡◌, ◌≤◌, ℕ, List, ◌++◌, length, replicate, Result, refl, sym, subst}
+use Rattle.std.proofs.Common.{◌≡◌, ◌≤◌, ℕ, ◌+◌, List, ◌++◌, length, replicate, Result, refl, sym, ap, subst, arith}
+use Rattle.std.proofs.lemmas.List.{length-append, length-replicate}
 use Rattle.std.specs.Int.{w32, to_be_bytes}
 use Rattle.wire_spec.specs.Padding.{padding_of}
 use Rattle.wire_spec.specs.Spelling.{spell}
@@ -31,6 +32,13 @@ record_spelling (records.IfCounters r) = refl
 record_spelling (records.EthernetCounters r) = refl
 record_spelling (records.VlanCounters r) = refl
 record_spelling (records.Other frame) = refl
+
+pub frame_size : (r : Record) → length (spell (record_tree r))
+    ≡ 8 + length (record_body r) + padding_of (length (record_body r))
+frame_size r =
+    let body = record_body r in
+    let n = padding_of (length body) in
+    omega (arith, ap length (record_spelling r), length-append body (replicate n 0), length-replicate {A = ℕ} n 0)
 
 -- its parts are written one after the other
 pub frame_written : (item : Record) (size : ℕ) (a b c d e : Out) (r : Result Unit OutFull)

@@ -15,9 +15,18 @@ use Rattle.datagram_core.specs.declared.writer.OpenSample.{OpenSample}
 abbrev pub so_far : DatagramWriter → List ℕ
 so_far w = take w.len w.room.now
 
--- how many bytes still fit: a datagram has at most 65,535
+-- how many bytes of the room it uses at most: a datagram has at most 65,535
+abbrev pub most_of : DatagramWriter → ℕ
+most_of w = min 65535 (length w.room.now)
+
+-- how many bytes still fit
 abbrev pub left_of : DatagramWriter → ℕ
-left_of w = min 65535 (length w.room.now) - w.len
+left_of w = most_of w - w.len
+
+-- both write into the same room, which has the same size
+pub record SameRoom (old new : DatagramWriter) : Type 0 where
+  pub same : new.room.ghost_name ≡ old.room.ghost_name
+  pub size : length new.room.now ≡ length old.room.now
 
 -- a sample is begun, or none is
 abbrev pub IsOpen : DatagramWriter → Type 0

@@ -1,14 +1,15 @@
 -- A datagram that is being written: what stands in it, and a sample that is begun.
 use Rattle.std.specs.Prelude.{◌≡◌, ◌≢◌, ℕ, ◌+◌, ◌≤◌, List, ◌++◌, length, take, drop}
 use Rattle.std.specs.Int.{w32, to_be_bytes}
-use Rattle.wire_spec.specs.Shapes.{Tree, known, Trees, none}
+use Rattle.wire_spec.specs.Shapes.{Tree, known, Trees, none, ◌&◌}
 use Rattle.wire_spec.specs.Members.{with_last_tree}
 use Rattle.wire_spec.specs.Spelling.{spell_all}
 use Rattle.data_format.specs.declared.heads.Form.{Form}
 use Rattle.data_format.specs.declared.heads.Form.TheVariants.{Compact, Expanded}
 use Rattle.data_format.specs.declared.heads.FlowHead.{FlowHead}
 use Rattle.data_format.specs.declared.heads.CountersHead.{CountersHead}
-use Rattle.data_format.specs.Samples.{flow_trees, counters_trees}
+use Rattle.data_format.specs.Samples.{IsFlowHead, IsCountersHead, flow_trees, counters_trees}
+use Rattle.data_format.specs.Trees.{AllPass}
 use Rattle.data_format.specs.Views.{IsFormat, format_word}
 use Rattle.data_format.specs.Records.{record_bytes}
 use Rattle.rec_headers.specs.Contents as headers
@@ -18,6 +19,7 @@ use Rattle.rec_extended.specs.RouteContents.{path_of, communities_of}
 use Rattle.rec_counters.specs.Contents as counters
 use Rattle.as_paths.specs.WordLists.{word_trees}
 use Rattle.as_paths.specs.Paths.{segment_trees}
+use Rattle.datagram_core.specs.Tables.{flow_records_read, counter_records_read}
 use Rattle.datagram_core.specs.declared.records.Record.{Record}
 use Rattle.datagram_core.specs.declared.records.Record.TheVariants.{
   RawHeader,
@@ -34,10 +36,17 @@ use Rattle.datagram_core.specs.declared.records.Record.TheVariants.{
 }
 use Rattle.datagram_core.specs.declared.records.RecordKind.{RecordKind}
 use Rattle.datagram_core.specs.declared.records.RecordKind.TheVariants as kinds
+use Rattle.datagram_core.specs.declared.sample.Sample.{Sample}
+use Rattle.datagram_core.specs.declared.sample.Sample.TheVariants as samples
 
 -- some values and one more
 abbrev pub and_then : Trees → Tree → Trees
 and_then ts t = with_last_tree ts t
+
+-- some values and then others
+abbrev pub joined : Trees → Trees → Trees
+joined none us = us
+joined (t & ts) us = t & joined ts us
 
 -- a sample that is begun: the kind of its records, its format, the values of its head, and its records so far
 pub record Begun : Type 0 where
@@ -64,6 +73,10 @@ begun_counters form h =
 
 abbrev pub with_record : Begun → Tree → Begun
 with_record s t = record { kind = s.kind; format = s.format; head = s.head; records = and_then s.records t }
+
+-- these records in place of its own
+abbrev pub filled : Begun → Trees → Begun
+filled s records = record { kind = s.kind; format = s.format; head = s.head; records = records }
 
 -- its bytes so far: the length of the body and the number of records are still 0
 abbrev pub begun_bytes : Begun → List ℕ
@@ -97,6 +110,19 @@ IsUnread kinds.Unknown k = Unit {0}
 -- the format is none of the samples that are read by their fields
 abbrev pub IsUnreadSample : ℕ → Type 0
 IsUnreadSample k = (k ≢ 1) × (k ≢ 2) × (k ≢ 3) × (k ≢ 4)
+
+-- a sample that is kept as its frame has such a format
+abbrev pub IsUnreadOther : Sample → Type 0
+IsUnreadOther (samples.Other frame) = IsUnreadSample (format_word frame.format)
+IsUnreadOther _ = Unit {0}
+
+-- a sample as it is given: its head has its form, its records are sound, and what is kept as a frame isn't read
+abbrev pub IsWritten : Sample → Type 0
+IsWritten (samples.Flow s) = IsFlowHead Compact s.head × AllPass flow_records_read s.frames
+IsWritten (samples.Counters s) = IsCountersHead Compact s.head × AllPass counter_records_read s.frames
+IsWritten (samples.FlowX s) = AllPass flow_records_read s.frames
+IsWritten (samples.CountersX s) = AllPass counter_records_read s.frames
+IsWritten (samples.Other frame) = IsFormat frame.format × IsUnreadSample (format_word frame.format)
 
 -- samples of this kind have the record
 abbrev pub HasKind : RecordKind → Record → Type 0

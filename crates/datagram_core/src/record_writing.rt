@@ -1,7 +1,9 @@
 // A record as it is written: its format, and the bytes of its body.
-ghost use Rattle.std.specs.Prelude.{◌≡◌, ◌≤◌, length};
+ghost use Rattle.std.specs.Prelude.{◌≡◌, ◌≤◌, ◌%◌, length};
+ghost use Rattle.wire_spec.specs.Spelling.{spell};
 ghost use Rattle.xdr_words.specs.Written.{Puts};
 ghost use Rattle.data_format.specs.Views.{format_word};
+ghost use Rattle.datagram_core.specs.Records.{record_tree};
 ghost use Rattle.datagram_core.specs.Written.{SlicesFit, FormatFits, record_format, record_body};
 
 use crate::Record;
@@ -62,6 +64,17 @@ impl Record<'_> {
             Record::VlanCounters(record) => record.length(),
             Record::Other(frame) => frame.body.len(),
         }
+    }
+
+    /// How many bytes its frame has, whose body has this size.
+    pub(crate) fn frame_length(&self, size: usize) -> usize
+        requires size { size ≡ length (record_body self.now) }
+        requires most { size ≤ 1000000 }
+        ensures exact { result ≡ length (spell (record_tree self.now)) }
+        ensures least { 8 ≤ result }
+        ensures words { result % 4 ≡ 0 }
+    {
+        8 + size + (4 - size % 4) % 4
     }
 
     /// Its body, whole or not at all. Each of its slices has at most 65,535 bytes.

@@ -1,9 +1,16 @@
 // A datagram that was read is written anew.
-ghost use Rattle.std.specs.Prelude.{◌≡◌, ◌<◌, length, take, IfOk, IfErr};
-ghost use Rattle.wire_spec.specs.Spelling.{spell};
+ghost use Rattle.std.specs.Prelude.{◌≡◌, ◌<◌, ◌≤◌, length, take, IfOk, IfErr};
+ghost use Rattle.wire_spec.specs.Heads.{Head, datagram_tree};
+ghost use Rattle.wire_spec.specs.Shapes.{Trees, none};
+ghost use Rattle.wire_spec.specs.Spelling.{spell, spell_all};
+ghost use Rattle.data_format.specs.Trees.{frame_trees};
+ghost use Rattle.datagram_core.specs.Records.{table_of};
+ghost use Rattle.datagram_core.specs.Samples.{sample_tree};
 ghost use Rattle.datagram_core.specs.Trees.{tree_of};
+ghost use Rattle.datagram_core.specs.Written.{Begun, and_then, filled, closed_sample, IsWritten};
+ghost use Rattle.datagram_core.specs.Writers.{IsClosed, IsOpenFor, Has, HasBegun, SameRoom, most_of};
 
-use crate::{Datagram, DatagramWriter, Sample};
+use crate::{Datagram, DatagramWriter, Records, Sample};
 use data_format::Form;
 use xdr_words::OutFull;
 
@@ -24,28 +31,55 @@ impl Datagram<'_> {
     }
 }
 
-// One sample with its records, or the first piece that doesn't fit.
-fn write_sample(writer: &mut DatagramWriter<'_>, sample: &Sample<'_>) -> Result<(), OutFull> {
-    let tail = match sample {
+// One sample with its records, or the first piece of it that doesn't fit.
+fn write_sample(writer: &mut DatagramWriter<'_>, sample: &Sample<'_>) -> Result<(), OutFull>
+    requires closed { IsClosed writer.old }
+    requires sound { IsWritten sample.now }
+    requires short { length (spell (sample_tree sample.now)) ≤ 65535 }
+    ensures room { SameRoom writer.old writer.new }
+    ensures has { (h : Head) (samples : Trees) → Has writer.old h samples
+        → IfOk result (λ u. Has writer.new h (and_then samples (sample_tree sample.now))) }
+    ensures full { (h : Head) (samples : Trees) → Has writer.old h samples
+        → IfErr result (λ e. most_of writer.old < length (spell (datagram_tree h (and_then samples (sample_tree sample.now))))) }
+{
+    match sample {
         Sample::Flow(flow) => {
             writer.open_flow(Form::Compact, &flow.head())?;
-            flow.tail()
+            fill(writer, sample.records(), flow.tail())
         }
         Sample::FlowX(flow) => {
             writer.open_flow(Form::Expanded, &flow.head())?;
-            flow.tail()
+            fill(writer, sample.records(), flow.tail())
         }
         Sample::Counters(counters) => {
             writer.open_counters(Form::Compact, &counters.head())?;
-            counters.tail()
+            fill(writer, sample.records(), counters.tail())
         }
         Sample::CountersX(counters) => {
             writer.open_counters(Form::Expanded, &counters.head())?;
-            counters.tail()
+            fill(writer, sample.records(), counters.tail())
         }
-        Sample::Other(frame) => return writer.push_other(frame.format, frame.body),
-    };
-    let mut records = sample.records();
+        Sample::Other(frame) => writer.push_other(frame.format, frame.body),
+    }
+}
+
+// The records and the tail of a sample that is begun, or the first piece of them that doesn't fit.
+fn fill(
+    writer: &mut DatagramWriter<'_>,
+    mut records: Records<'_>,
+    tail: &[u8],
+) -> Result<(), OutFull>
+    requires kind { IsOpenFor records.kind writer.old }
+    requires records { length (spell_all (frame_trees (table_of records.kind) records.frames)) ≤ 65535 }
+    requires tail { length tail.now ≤ 65535 }
+    ensures room { SameRoom writer.old writer.new }
+    ensures has { (h : Head) (samples : Trees) (s : Begun) → HasBegun writer.old h samples s → s.records ≡ none
+        → IfOk result (λ u. Has writer.new h
+            (and_then samples (closed_sample (filled s (frame_trees (table_of records.entry.kind) records.entry.frames)) tail.now))) }
+    ensures full { (h : Head) (samples : Trees) (s : Begun) → HasBegun writer.old h samples s → s.records ≡ none
+        → IfErr result (λ e. most_of writer.old < length (spell (datagram_tree h
+            (and_then samples (closed_sample (filled s (frame_trees (table_of records.entry.kind) records.entry.frames)) tail.now))))) }
+{
     while let Some(record) = records.next() {
         writer.push_record(&record)?;
     }

@@ -142,7 +142,7 @@ impl<'b> DatagramWriter<'b> {
             unreachable!()
         };
         let size = item.body_length();
-        self.check_room(8 + size + (4 - size % 4) % 4)?;
+        self.check_room(item.frame_length(size))?;
         self.len = append_record(self.room, self.len, item, size)?;
         self.begun = Some(OpenSample {
             records: sample.records + 1,
