@@ -8,7 +8,7 @@ mod laws;
 mod record;
 mod record_writing;
 mod records;
-// mod rewriting;
+mod rewriting;
 mod sample;
 mod samples;
 mod writer;
