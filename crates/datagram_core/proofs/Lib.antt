@@ -9,3 +9,7 @@ pub mod Writing
 pub mod Frames
 pub mod WriterSteps
 pub mod Again
+pub mod Sizes
+pub mod Filling
+pub mod Slices
+pub mod Anew

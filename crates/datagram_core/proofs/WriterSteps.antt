@@ -87,9 +87,9 @@ pushed_after old new o h ts s t has is bytes begun place count =
     }) in
     record {
       bytes = bytes ∙ ap (λ (l : List ℕ). l ++ spell t) has.bytes ∙ append_assoc d (begun_bytes s) (spell t)
-      ∙ ap (λ (l : List ℕ). d ++ ((be s.format ++ be 0) ++ l))
-      (append_assoc (spell_all s.head) (be 0 ++ spell_all s.records) (spell t)
-      ∙ ap (λ (l : List ℕ). spell_all s.head ++ (be 0 ++ l)) (sym (spell_last s.records t)));
+          ∙ ap (λ (l : List ℕ). d ++ ((be s.format ++ be 0) ++ l))
+          (append_assoc (spell_all s.head) (be 0 ++ spell_all s.records) (spell t)
+          ∙ ap (λ (l : List ℕ). spell_all s.head ++ (be 0 ++ l)) (sym (spell_last s.records t)));
       begun = begun ∙ ap next one ∙ ap with_count more;
       place = place ∙ has.place;
       count = count ∙ has.count;
@@ -125,9 +125,9 @@ closed_after old new o h ts s tail n m has is size more bytes closed place count
     patch old.count_at (be m) (patch o.count_at (be k) (patch (o.start + 4) (be n) (so_far old ++ padded tail))) in
     record {
       bytes = bytes ∙ ap with_records known
-      ∙ closing h ts s tail n m (o.start + 4) o.count_at old.count_at (so_far old ++ padded tail)
-      (omega (arith, size, all, start)) words (omega (arith, start)) at (omega (arith, has.place)) (omega (arith, more, has.count))
-      (ap (λ (l : List ℕ). l ++ padded tail) has.bytes);
+          ∙ closing h ts s tail n m (o.start + 4) o.count_at old.count_at (so_far old ++ padded tail)
+          (omega (arith, size, all, start)) words (omega (arith, start)) at (omega (arith, has.place)) (omega (arith, more, has.count))
+          (ap (λ (l : List ℕ). l ++ padded tail) has.bytes);
       closed = closed;
       place = place ∙ has.place;
       count = count ∙ omega (arith, more, has.count, count_last ts (closed_sample s tail));
@@ -141,7 +141,7 @@ pub kept_after : (old new : DatagramWriter) (h : Head) (ts : Trees) (t : Tree) (
     → Has new h (and_then ts t)
 kept_after old new h ts t m has more bytes closed place count = record {
   bytes = bytes ∙ next_sample h ts t (so_far old ++ spell t) old.count_at m (omega (arith, has.place)) (omega (arith, more, has.count))
-  (ap (λ (l : List ℕ). l ++ spell t) has.bytes);
+      (ap (λ (l : List ℕ). l ++ spell t) has.bytes);
   closed = closed ∙ has.closed;
   place = place ∙ has.place;
   count = count ∙ omega (arith, more, has.count, count_last ts t);

@@ -79,7 +79,7 @@ abbrev frame_bytes : Begun → List ℕ → ℕ → List ℕ
 frame_bytes s tail n =
     be s.format ++ (be n ++ (spell_all s.head ++ (be (count_of s.records) ++ (spell_all s.records ++ padded tail))))
 
-closed_bytes : (s : Begun) (tail : List ℕ) (n : ℕ)
+pub closed_bytes : (s : Begun) (tail : List ℕ) (n : ℕ)
     → n ≡ (length (spell_all s.head) + 4 + length (spell_all s.records)) + length tail
     → (length (spell_all s.head) + 4 + length (spell_all s.records)) % 4 ≡ 0
     → spell (closed_sample s tail) ≡ frame_bytes s tail n

@@ -1,6 +1,5 @@
 -- A writer of one datagram, and what its calls do.
 use Rattle.std.specs.Prelude.{◌≡◌, ℕ, ◌+◌, ◌-◌, ◌<◌, ◌≤◌, min, List, ◌++◌, length, take, Result, Ok, Err, is_some, true, false, Option, Some, None}
-use Rattle.std.specs.Borrow.{MutBor}
 use Rattle.wire_spec.specs.Heads.{Head, datagram_tree}
 use Rattle.wire_spec.specs.Shapes.{Trees, none, count_of}
 use Rattle.wire_spec.specs.Spelling.{spell, spell_all}
@@ -42,11 +41,6 @@ OfKind kind (Some o) = o.kind ≡ kind
 
 abbrev pub IsOpenFor : RecordKind → DatagramWriter → Type 0
 IsOpenFor kind w = OfKind kind w.begun
-
--- it writes into this room
-pub record IsOver (room : MutBor (List ℕ)) (w : DatagramWriter) : Type 0 where
-  pub same : w.room.ghost_name ≡ room.ghost_name
-  pub size : length w.room.now ≡ length room.now
 
 -- the datagram so far has this head and these samples, and no sample is begun
 pub record Has (w : DatagramWriter) (h : Head) (samples : Trees) : Type 0 where

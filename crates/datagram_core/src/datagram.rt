@@ -108,10 +108,7 @@ fn parse_parts(bytes: &[u8], pad: Pad) -> Result<Datagram<'_>, Fault>
 }
 
 // The version, the head and the samples, or the first fault.
-fn read_parts<'a>(
-    cursor: &mut Cursor<'a>,
-    pad: Pad,
-) -> Result<(DatagramHead, Samples<'a>), Fault>
+fn read_parts<'a>(cursor: &mut Cursor<'a>, pad: Pad) -> Result<(DatagramHead, Samples<'a>), Fault>
     requires { pad ≡ cursor.old.pad }
     ensures { Reads (λ x. (head_trees (head_of x.0), x.1)) (λ f. f) cursor.old cursor.new result
         (behind_version_at pad samples_read (remaining cursor.old)) }

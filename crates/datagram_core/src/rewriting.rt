@@ -6,11 +6,13 @@ ghost use Rattle.wire_spec.specs.Spelling.{spell, spell_all};
 ghost use Rattle.data_format.specs.Trees.{frame_trees};
 ghost use Rattle.datagram_core.specs.Records.{table_of};
 ghost use Rattle.datagram_core.specs.Samples.{sample_tree};
+ghost use Rattle.datagram_core.specs.Tables.{samples_read};
 ghost use Rattle.datagram_core.specs.Trees.{tree_of};
 ghost use Rattle.datagram_core.specs.Written.{Begun, and_then, filled, closed_sample, IsWritten};
 ghost use Rattle.datagram_core.specs.Writers.{IsClosed, IsOpenFor, Has, HasBegun, SameRoom, most_of};
 
-use crate::{Datagram, DatagramWriter, Records, Sample};
+use crate::writer_parts::front_length;
+use crate::{Datagram, DatagramWriter, Records, Sample, Samples};
 use data_format::Form;
 use xdr_words::OutFull;
 
@@ -22,13 +24,35 @@ impl Datagram<'_> {
         ensures length { IfOk result (λ n. n ≡ length (spell (tree_of self.now))) }
         ensures full { IfErr result (λ e. length room.old < length (spell (tree_of self.now))) }
     {
-        let mut writer = DatagramWriter::begin(room, &self.head())?;
-        let mut samples = self.samples();
-        while let Some(sample) = samples.next() {
-            write_sample(&mut writer, &sample)?;
+        let head = self.head();
+        let need = front_length(&head);
+        if room.len() < need {
+            return Err(OutFull {
+                need,
+                room: room.len(),
+            });
         }
+        let mut writer = DatagramWriter::start(room, &head);
+        write_samples(&mut writer, self.samples())?;
         Ok(writer.finish())
     }
+}
+
+// All samples of a datagram, or the first piece that doesn't fit.
+fn write_samples(writer: &mut DatagramWriter<'_>, mut samples: Samples<'_>) -> Result<(), OutFull>
+    requires closed { IsClosed writer.old }
+    requires short { length (spell_all (frame_trees samples_read samples)) ≤ 65535 }
+    ensures room { SameRoom writer.old writer.new }
+    ensures closed { IfOk result (λ u. IsClosed writer.new) }
+    ensures has { (h : Head) → Has writer.old h none
+        → IfOk result (λ u. Has writer.new h (frame_trees samples_read samples.entry)) }
+    ensures full { (h : Head) → Has writer.old h none
+        → IfErr result (λ e. most_of writer.old < length (spell (datagram_tree h (frame_trees samples_read samples.entry)))) }
+{
+    while let Some(sample) = samples.next() {
+        write_sample(writer, &sample)?;
+    }
+    Ok(())
 }
 
 // One sample with its records, or the first piece of it that doesn't fit.
@@ -37,6 +61,7 @@ fn write_sample(writer: &mut DatagramWriter<'_>, sample: &Sample<'_>) -> Result<
     requires sound { IsWritten sample.now }
     requires short { length (spell (sample_tree sample.now)) ≤ 65535 }
     ensures room { SameRoom writer.old writer.new }
+    ensures closed { IfOk result (λ u. IsClosed writer.new) }
     ensures has { (h : Head) (samples : Trees) → Has writer.old h samples
         → IfOk result (λ u. Has writer.new h (and_then samples (sample_tree sample.now))) }
     ensures full { (h : Head) (samples : Trees) → Has writer.old h samples
@@ -73,12 +98,13 @@ fn fill(
     requires records { length (spell_all (frame_trees (table_of records.kind) records.frames)) ≤ 65535 }
     requires tail { length tail.now ≤ 65535 }
     ensures room { SameRoom writer.old writer.new }
+    ensures closed { IfOk result (λ u. IsClosed writer.new) }
     ensures has { (h : Head) (samples : Trees) (s : Begun) → HasBegun writer.old h samples s → s.records ≡ none
         → IfOk result (λ u. Has writer.new h
-            (and_then samples (closed_sample (filled s (frame_trees (table_of records.entry.kind) records.entry.frames)) tail.now))) }
+        (and_then samples (closed_sample (filled s (frame_trees (table_of records.entry.kind) records.entry.frames)) tail.now))) }
     ensures full { (h : Head) (samples : Trees) (s : Begun) → HasBegun writer.old h samples s → s.records ≡ none
         → IfErr result (λ e. most_of writer.old < length (spell (datagram_tree h
-            (and_then samples (closed_sample (filled s (frame_trees (table_of records.entry.kind) records.entry.frames)) tail.now))))) }
+        (and_then samples (closed_sample (filled s (frame_trees (table_of records.entry.kind) records.entry.frames)) tail.now))))) }
 {
     while let Some(record) = records.next() {
         writer.push_record(&record)?;

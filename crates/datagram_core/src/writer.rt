@@ -3,12 +3,13 @@ ghost use Rattle.std.proofs.Props.{props};
 
 use crate::records::RecordKind;
 use crate::writer_appends::{
-    append_counters, append_flow, append_other, append_record, append_tail, patch_word,
+    append_counters, append_flow, append_front, append_other, append_record, append_tail,
+    patch_word,
 };
-use crate::writer_parts::{counters_length, flow_length, front_length, write_front};
+use crate::writer_parts::{counters_length, flow_length, front_length};
 use crate::{DatagramHead, Record};
 use data_format::{CountersHead, FlowHead, Form, Format};
-use xdr_words::{Out, OutFull};
+use xdr_words::OutFull;
 
 /// The most bytes that a datagram has.
 const MOST: usize = 65_535;
@@ -57,14 +58,15 @@ impl<'b> DatagramWriter<'b> {
     ghost use Rattle.datagram_core.specs.Heads.{head_of};
     ghost use Rattle.datagram_core.specs.Records.{record_tree};
     ghost use Rattle.datagram_core.specs.Written.{Begun, and_then, begun_flow, begun_counters, begun_bytes, with_record, closed_sample, HasKind, SlicesFit, IsUnreadSample};
-    ghost use Rattle.datagram_core.specs.Writers.{so_far, left_of, IsOpen, IsClosed, IsOpenFor, IsOver, Has, HasBegun, Adds};
+    ghost use Rattle.datagram_core.specs.Writers.{so_far, left_of, IsOpen, IsClosed, IsOpenFor, Has, HasBegun, Adds};
     ghost use Rattle.datagram_core.specs.declared.records.RecordKind.{RecordKind};
     ghost use Rattle.datagram_core.specs.declared.records.RecordKind.TheVariants.{Flow, Counters};
 
     /// Writes this head and a count of 0 samples.
     pub fn begin(room: &'b mut [u8], head: &DatagramHead) -> Result<DatagramWriter<'b>, OutFull>
+        ensures same { IfOk result (λ w. w.room.ghost_name ≡ room.entry.ghost_name) }
         ensures has { IfOk result (λ w. Has w (head_of head.now) none) }
-        ensures over { IfOk result (λ w. IsOver room.entry w) }
+        ensures size { IfOk result (λ w. length w.room.now ≡ length room.old) }
         ensures left { IfOk result (λ w. left_of w + length (spell (datagram_tree (head_of head.now) none)) ≡ min 65535 (length room.old)) }
         ensures need { IfErr result (λ e. e.need ≡ length (spell (datagram_tree (head_of head.now) none))) }
         ensures room { IfErr result (λ e. e.room ≡ min 65535 (length room.old)) }
@@ -75,16 +77,25 @@ impl<'b> DatagramWriter<'b> {
         if left < need {
             return Err(OutFull { need, room: left });
         }
-        let mut out = Out::new(room);
-        write_front(&mut out, head)?;
-        let len = out.len();
-        Ok(DatagramWriter {
+        Ok(DatagramWriter::start(room, head))
+    }
+
+    /// The same where the room is large enough for this. A caller of `begin` can't prove what the room holds in the end,
+    /// since the writer stands in a `Result`; a caller of this can.
+    pub fn start(room: &'b mut [u8], head: &DatagramHead) -> DatagramWriter<'b>
+        requires { length (spell (datagram_tree (head_of head.now) none)) ≤ min 65535 (length room.old) }
+        ensures same { result.room.ghost_name ≡ room.entry.ghost_name }
+        ensures size { length result.room.now ≡ length room.old }
+        ensures has { Has result (head_of head.now) none }
+    {
+        let len = append_front(room, head);
+        DatagramWriter {
             room,
             len,
             count_at: len - 4,
             samples: 0,
             begun: None,
-        })
+        }
     }
 
     /// Whether a sample is begun and not closed.

@@ -1,17 +1,36 @@
 // Pieces behind what stands in a room. For each of them there is room, so that none is refused.
-ghost use Rattle.std.specs.Prelude.{◌≡◌, ◌≤◌, ◌+◌, ◌-◌, ◌<◌, ◌^◌, length, take, IsOkAnd};
+ghost use Rattle.std.specs.Prelude.{◌≡◌, ◌≤◌, ◌+◌, ◌%◌, length, take, IsOkAnd};
 ghost use Rattle.std.specs.Int.{w32, to_be_bytes};
-ghost use Rattle.wire_spec.specs.Shapes.{other};
+ghost use Rattle.wire_spec.specs.Heads.{datagram_tree};
+ghost use Rattle.wire_spec.specs.Shapes.{none, other};
 ghost use Rattle.wire_spec.specs.Spelling.{spell, padded};
 ghost use Rattle.data_format.specs.Samples.{IsFlowHead, IsCountersHead};
 ghost use Rattle.data_format.specs.Views.{IsFormat, format_word};
+ghost use Rattle.datagram_core.specs.Heads.{head_of};
 ghost use Rattle.datagram_core.specs.Records.{record_tree};
 ghost use Rattle.datagram_core.specs.Written.{begun_bytes, begun_flow, begun_counters, FormatFits, SlicesFit, record_body, Extends, patch};
 
-use crate::Record;
-use crate::writer_parts::{write_counters, write_flow, write_other, write_record};
+use crate::writer_parts::{
+    front_length, write_counters, write_flow, write_front, write_other, write_record,
+};
+use crate::{DatagramHead, Record};
 use data_format::{CountersHead, FlowHead, Form, Format};
 use xdr_words::{Out, OutFull};
+
+/// The version, the head and a count of 0 samples, at the front of the room.
+pub(crate) fn append_front(room: &mut [u8], head: &DatagramHead) -> usize
+    requires { length (spell (datagram_tree (head_of head.now) none)) ≤ length room.old }
+    ensures extends { Extends room.old room.new 0 result (spell (datagram_tree (head_of head.now) none)) }
+    ensures words { result % 4 ≡ 0 }
+    ensures least { 24 ≤ result }
+{
+    let size = front_length(head);
+    let mut out = Out::new(room);
+    match write_front(&mut out, head) {
+        Ok(()) => size,
+        Err(_) => unreachable!(),
+    }
+}
 
 /// The format of a flow sample, a length of 0, its head, and a count of 0 records.
 pub(crate) fn append_flow(

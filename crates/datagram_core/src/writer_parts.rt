@@ -1,5 +1,5 @@
 // The pieces of a datagram that is being written. For each of them there is room.
-ghost use Rattle.std.specs.Prelude.{◌≡◌, ◌≤◌, ◌+◌, length};
+ghost use Rattle.std.specs.Prelude.{◌≡◌, ◌≤◌, ◌%◌, length};
 ghost use Rattle.wire_spec.specs.Heads.{address_tree, datagram_tree};
 ghost use Rattle.wire_spec.specs.Padding.{padding_of};
 ghost use Rattle.wire_spec.specs.Shapes.{none, other};
@@ -23,6 +23,8 @@ use xdr_words::{Item, Out, OutFull, write_run};
 /// How many bytes the version, a head and a count have.
 pub(crate) fn front_length(head: &DatagramHead) -> usize
     ensures exact { result ≡ length (spell (datagram_tree (head_of head.now) none)) }
+    ensures words { result % 4 ≡ 0 }
+    ensures least { 24 ≤ result }
     ensures most { result ≤ 40 }
 {
     20 + address_length(&head.agent)
@@ -31,6 +33,8 @@ pub(crate) fn front_length(head: &DatagramHead) -> usize
 /// How many bytes an address has.
 pub(crate) fn address_length(address: &Address) -> usize
     ensures exact { result ≡ length (spell (address_tree (address_of address.now))) }
+    ensures words { result % 4 ≡ 0 }
+    ensures least { 4 ≤ result }
     ensures most { result ≤ 20 }
 {
     match address {
@@ -133,11 +137,7 @@ pub(crate) fn write_counters(
 }
 
 /// The frame of a record whose body has this size in bytes.
-pub(crate) fn write_record(
-    out: &mut Out<'_>,
-    item: &Record<'_>,
-    size: usize,
-) -> Result<(), OutFull>
+pub(crate) fn write_record(out: &mut Out<'_>, item: &Record<'_>, size: usize) -> Result<(), OutFull>
     requires format { FormatFits item.now }
     requires slices { SlicesFit item.now }
     requires size { size ≡ length (record_body item.now) }
