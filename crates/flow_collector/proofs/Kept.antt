@@ -50,18 +50,6 @@ within-ranges l e =
       samples_to = samples.1;
     }
 
--- ---- the first fault
-
-pub first-of-all : (o : Option FirstFault) (n : ℕ) (f : Fault) → is_some o ≡ false
-    → Some (record { entry = n + 1; fault = f }) ≡ fault_after (fault_shown o) n (Malformed f)
-first-of-all None n f e = refl
-first-of-all (Some x) n f e = absurd (true≢false e)
-
-pub not-first : (o : Option FirstFault) (n : ℕ) (f : Fault) → is_some o ≡ true
-    → fault_shown o ≡ fault_after (fault_shown o) n (Malformed f)
-not-first None n f e = absurd (true≢false (sym e))
-not-first (Some x) n f e = refl
-
 -- ---- no count overflows
 
 pub entries-are : (s : CollectorState) (l : books.Limits) (items : List Item) → StandsFor s l items
