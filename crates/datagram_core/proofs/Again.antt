@@ -6,7 +6,7 @@ use Rattle.wire_spec.specs.declared.pad.Pad.{Pad}
 use Rattle.wire_spec.specs.declared.pad.Pad.TheVariants as pads
 use Rattle.wire_spec.specs.declared.fault.Fault.{Fault}
 use Rattle.wire_spec.specs.Bytes.{AreBytes}
-use Rattle.wire_spec.specs.Shapes.{Shape, Table, Tree}
+use Rattle.wire_spec.specs.Shapes.{Table, Tree}
 use Rattle.wire_spec.specs.Spells.{Spells}
 use Rattle.wire_spec.specs.Fails.{Remaining, Fails}
 use Rattle.wire_spec.specs.Reading.{◌>>=◌, reading}

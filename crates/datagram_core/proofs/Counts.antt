@@ -10,14 +10,14 @@ use Rattle.wire_spec.specs.Padding.{padding_of}
 use Rattle.wire_spec.specs.Shapes.{version, Shapes, Table, Trees}
 use Rattle.wire_spec.specs.Spells.{SpellsAll}
 use Rattle.wire_spec.specs.Fails.{Remaining, FailsMember, short, unknown_word}
-use Rattle.wire_spec.specs.Reading.{◌>>=◌, item_at, word_at, members_at, padding_at, body_at, body_end_at}
+use Rattle.wire_spec.specs.Reading.{◌>>=◌, item_at, word_at, padding_at, body_at, body_end_at}
 use Rattle.wire_spec.specs.Bodies.{counted_body_at, items_at}
 use Rattle.wire_spec.proofs.Bodies.{body_is_there}
 use Rattle.wire_spec.proofs.Grammar.{members_agree}
 use Rattle.wire_spec.proofs.Runs.{first_step, same_value}
 use Rattle.wire_spec.proofs.Steps.{IsSo}
 use Rattle.data_format.specs.Views.{FrameView}
-use Rattle.data_format.specs.Frames.{Test, frame_of, tested_at, checked_at, frames_at}
+use Rattle.data_format.specs.Frames.{Test, frame_of, tested_at, checked_at}
 use Rattle.data_format.specs.Parts.{Parts, parts_at}
 use Rattle.data_format.specs.Trees.{table_test}
 use Rattle.data_format.proofs.Parts.{parts_steps}

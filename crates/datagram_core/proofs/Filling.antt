@@ -1,9 +1,9 @@
 -- A sample that is begun is filled with its records, one after the other.
-use Rattle.std.proofs.Common.{◌≡◌, ◌≢◌, ℕ, ◌+◌, ◌-◌, ◌<◌, ◌≤◌, ◌%◌, min, List, ◌∷◌, ◌++◌, length, Option, Some, None, is_some, true, Result, Ok, Err, refl, sym, ap, subst, ◌∙◌, arith}
+use Rattle.std.proofs.Common.{◌≡◌, ℕ, ◌+◌, ◌<◌, ◌≤◌, ◌%◌, min, List, ◌∷◌, length, Option, Some, None, is_some, true, Result, Ok, Err, refl, sym, ap, subst, ◌∙◌, arith}
 use Rattle.std.specs.Prelude.{IfOk, IfErr}
 use Rattle.std.proofs.lemmas.List.{length-append}
 use Rattle.wire_spec.specs.Heads.{Head, datagram_tree}
-use Rattle.wire_spec.specs.Shapes.{Tree, Trees, none, ◌&◌, count_of}
+use Rattle.wire_spec.specs.Shapes.{Tree, Trees, none, ◌&◌}
 use Rattle.wire_spec.specs.Spelling.{padded, spell, spell_all}
 use Rattle.xdr_words.specs.declared.writer.OutFull.{OutFull}
 use Rattle.data_format.specs.Trees.{frame_trees}
@@ -11,7 +11,7 @@ use Rattle.data_format.specs.Views.{FrameView}
 use Rattle.datagram_core.specs.Records.{record_tree, table_of, IsRecordOf}
 use Rattle.datagram_core.specs.declared.records.Record.{Record}
 use Rattle.datagram_core.specs.Written.{Begun, and_then, joined, filled, begun_bytes, with_record, closed_sample}
-use Rattle.datagram_core.specs.Writers.{so_far, most_of, left_of, OfKind, IsOpen, IsOpenFor, HasBegun, Has, SameRoom, Adds}
+use Rattle.datagram_core.specs.Writers.{most_of, left_of, OfKind, IsOpen, IsOpenFor, HasBegun, Has, SameRoom, Adds}
 use Rattle.datagram_core.specs.declared.records.RecordKind.{RecordKind}
 use Rattle.datagram_core.specs.declared.writer.DatagramWriter.{DatagramWriter}
 use Rattle.datagram_core.specs.declared.writer.OpenSample.{OpenSample}

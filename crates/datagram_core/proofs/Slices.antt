@@ -1,9 +1,9 @@
 -- The slices of a record aren't longer than the record.
-use Rattle.std.proofs.Common.{ℕ, ◌+◌, ◌≤◌, List, [], ◌++◌, length, replicate, arith}
+use Rattle.std.proofs.Common.{◌+◌, ◌≤◌, [], ◌++◌, length, replicate, arith}
 use Rattle.wire_spec.specs.Padding.{padding_of}
 use Rattle.std.proofs.lemmas.List.{length-append}
 use Rattle.wire_spec.specs.Heads.{address_tree}
-use Rattle.wire_spec.specs.Shapes.{Tree, Trees, none, ◌&◌, count_of}
+use Rattle.wire_spec.specs.Shapes.{count_of}
 use Rattle.wire_spec.specs.Spelling.{padded, spell, spell_all}
 use Rattle.data_format.specs.Addresses.{address_of}
 use Rattle.data_format.specs.Records.{Content, record_bytes}

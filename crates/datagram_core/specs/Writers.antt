@@ -1,7 +1,7 @@
 -- A writer of one datagram, and what its calls do.
 use Rattle.std.specs.Prelude.{◌≡◌, ℕ, ◌+◌, ◌-◌, ◌<◌, ◌≤◌, min, List, ◌++◌, length, take, Result, Ok, Err, is_some, true, false, Option, Some, None}
 use Rattle.wire_spec.specs.Heads.{Head, datagram_tree}
-use Rattle.wire_spec.specs.Shapes.{Trees, none, count_of}
+use Rattle.wire_spec.specs.Shapes.{Trees, count_of}
 use Rattle.wire_spec.specs.Spelling.{spell, spell_all}
 use Rattle.xdr_words.specs.declared.writer.OutFull.{OutFull}
 use Rattle.datagram_core.specs.Heads.{head_trees}

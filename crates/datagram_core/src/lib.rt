@@ -17,7 +17,7 @@ mod writer_parts;
 
 pub use datagram::Datagram;
 pub use head::DatagramHead;
-pub use laws::datagrams_over_all_records;
+pub use laws::{datagrams_over_all_records, written_datagrams_are_read};
 pub use records::{Record, Records};
 pub use sample::Sample;
 pub use samples::Samples;

@@ -111,6 +111,7 @@ impl<'b> DatagramWriter<'b> {
         requires closed { IsClosed self.old }
         requires form { IsFlowHead form head.now }
         ensures room { Adds self.old self.new result (length (begun_bytes (begun_flow form head.now))) }
+        ensures open { IfOk result (λ u. IsOpen self.new) }
         ensures kind { IfOk result (λ u. IsOpenFor Flow self.new) }
         ensures begun { (h : Head) (samples : Trees) → Has self.old h samples
             → IfOk result (λ u. HasBegun self.new h samples (begun_flow form head.now)) }
@@ -127,6 +128,7 @@ impl<'b> DatagramWriter<'b> {
         requires closed { IsClosed self.old }
         requires form { IsCountersHead form head.now }
         ensures room { Adds self.old self.new result (length (begun_bytes (begun_counters form head.now))) }
+        ensures open { IfOk result (λ u. IsOpen self.new) }
         ensures kind { IfOk result (λ u. IsOpenFor Counters self.new) }
         ensures begun { (h : Head) (samples : Trees) → Has self.old h samples
             → IfOk result (λ u. HasBegun self.new h samples (begun_counters form head.now)) }
@@ -145,6 +147,7 @@ impl<'b> DatagramWriter<'b> {
         requires kind { (kind : RecordKind) → IsOpenFor kind self.old → HasKind kind item.now }
         requires slices { SlicesFit item.now }
         ensures room { Adds self.old self.new result (length (spell (record_tree item.now))) }
+        ensures open { IsOpen self.new }
         ensures kind { (kind : RecordKind) → IsOpenFor kind self.old → IsOpenFor kind self.new }
         ensures pushed { (h : Head) (samples : Trees) (s : Begun) → HasBegun self.old h samples s
             → IfOk result (λ u. HasBegun self.new h samples (with_record s (record_tree item.now))) }

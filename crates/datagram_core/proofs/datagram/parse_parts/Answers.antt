@@ -1,4 +1,4 @@
-use Rattle.std.proofs.Common.{List, ℕ, length, ◌≤◌, ap, subst, sym, arith}
+use Rattle.std.proofs.Common.{length, ◌≤◌, subst, sym, arith}
 use Rattle.wire_spec.specs.Bytes.{AreBytes}
 use Rattle.wire_spec.specs.Fails.{Remaining}
 use Rattle.xdr_words.specs.Readers.{Reader, remaining}

@@ -1,4 +1,4 @@
-use Rattle.std.proofs.Common.{ap, subst, sym, refl, ◌∙◌, ◌≡◌, List, arith}
+use Rattle.std.proofs.Common.{ap, subst, refl, ◌∙◌, List}
 use Rattle.data_format.specs.Views.{FrameView}
 use Rattle.data_format.specs.Trees.{frame_trees}
 use Rattle.datagram_core.specs.Records.{record_tree, table_of}

@@ -1,4 +1,4 @@
-use Rattle.std.proofs.Common.{◌≡◌, ◌<◌, length, refl, sym, ap, subst}
+use Rattle.std.proofs.Common.{◌≡◌, ◌<◌, length, refl, subst}
 use Rattle.data_format.specs.declared.heads.Form.TheVariants.{Compact, Expanded}
 use Rattle.data_format.specs.declared.heads.FlowHead.{FlowHead}
 use Rattle.data_format.specs.declared.heads.CountersHead.{CountersHead}

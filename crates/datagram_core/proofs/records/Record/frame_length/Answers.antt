@@ -1,5 +1,4 @@
 use Rattle.std.proofs.Common.{arith}
-use Rattle.wire_spec.specs.Padding.{padding_of}
 use Rattle.datagram_core.proofs.Frames.{frame_size}
 use Rattle.datagram_core.proofs.records.Record.frame_length.Goals as goal
 
