@@ -3,6 +3,7 @@
 #![tactic(auto)]
 
 mod collector;
+pub mod laws;
 mod refusal;
 mod shown;
 

@@ -84,6 +84,15 @@ fn take(
     Ok(collector.take(came.at, &datagram))
 }
 
+// Takes datagrams without samples, and gives the last answer.
+fn take_all(collector: &mut Collector, alloc: Global, datagrams: &[Came]) -> Result<Taken, Fail> {
+    let mut last = Taken::Malformed;
+    for datagram in datagrams {
+        last = take(collector, alloc, *datagram, &[])?;
+    }
+    Ok(last)
+}
+
 // What is shown of a stream: its numbers, boots and stale datagrams.
 fn stream_shown(collector: &Collector, place: usize) -> Option<(LedgerView, u64, u64)> {
     let view = collector.stream(place)?;
@@ -233,10 +242,7 @@ fn streams_are_counted(rt: HostRuntime) -> Result<(), Fail> {
     ];
     for (datagrams, answer, ledger, boots, stale) in rows {
         let mut collector = opened(&rt, rt.alloc(), Limits::usual())?;
-        let mut last = Taken::Malformed;
-        for datagram in datagrams {
-            last = take(&mut collector, rt.alloc(), *datagram, &[])?;
-        }
+        let last = take_all(&mut collector, rt.alloc(), datagrams)?;
         assert_eq!(rt; last, answer, "of {datagrams:?}");
         assert_eq!(rt;
             stream_shown(&collector, 0),
