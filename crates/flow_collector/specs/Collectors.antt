@@ -1,5 +1,5 @@
 -- A collector, and the items for which it stands, the LATEST FIRST.
-use Rattle.std.specs.Prelude.{◌≡◌, ℕ, ◌≤◌, ◌<◌, List, [], ◌∷◌, length}
+use Rattle.std.specs.Prelude.{◌≡◌, ◌≤◌, List, [], ◌∷◌, length}
 use Rattle.books_spec.specs.Items.{Item, Got, Malformed, Limits}
 use Rattle.books_spec.specs.Books.{sources_of, source_boots, Totals, totals, most_entries}
 use Rattle.stream_books.specs.Streams.{StreamState}

@@ -1,11 +1,31 @@
 -- The items for which a collector stands while it takes a datagram: first the datagram without its samples, and then
 -- with one sample more after the other.
-use Rattle.std.specs.Prelude.{◌≡◌, ℕ, ◌≤◌, ◌<◌, List, [], ◌∷◌, ◌++◌, length}
+use Rattle.std.specs.Prelude.{◌≡◌, ℕ, ◌≤◌, ◌<◌, Bool, true, false, List, [], ◌∷◌, ◌++◌, length}
 use Rattle.books_spec.specs.Items.{Sample, Datagram, Item, Got, stream_of, Limits}
-use Rattle.books_spec.specs.Books.{First, taken_now, stream_boots, most_entries}
+use Rattle.books_spec.specs.Books as books
+use Rattle.books_spec.specs.Books.{Taken, First, Repeat, Late, Unlisted, Malformed_entry, Spent, taken_now, stream_boots, most_entries}
 use Rattle.collector_tables.specs.declared.keys.StreamKey.{StreamKey}
 use Rattle.collector_tables.specs.Keys.{stream_in}
 use Rattle.flow_collector.specs.Collectors.{CollectorState, StandsFor, AreFew}
+
+-- the samples of a datagram that is answered so are entered
+abbrev pub is_first : Taken → Bool
+is_first First = true
+is_first Repeat = false
+is_first Late = false
+is_first books.Stale = false
+is_first Unlisted = false
+is_first Malformed_entry = false
+is_first Spent = false
+
+abbrev pub is_unlisted : Taken → Bool
+is_unlisted First = false
+is_unlisted Repeat = false
+is_unlisted Late = false
+is_unlisted books.Stale = false
+is_unlisted Unlisted = true
+is_unlisted Malformed_entry = false
+is_unlisted Spent = false
 
 abbrev pub with_samples : Datagram → List Sample → Datagram
 with_samples d samples = record d { samples = samples }

@@ -1,4 +1,4 @@
-ghost use Rattle.std.specs.Prelude.{◌≡◌, ℕ, ◌+◌, ◌≤◌, ◌<◌, true, List, [], ◌∷◌, length, slice_get, Some, IfOk, IfErr, IfSome};
+ghost use Rattle.std.specs.Prelude.{◌≡◌, ℕ, ◌+◌, ◌≤◌, ◌<◌, cond, true, List, [], ◌∷◌, length, slice_get, Some, IfOk, IfErr, IfSome};
 ghost use Rattle.std.specs.declared.result.Result.TheVariants.{Err};
 ghost use Rattle.std.specs.Option.{option_map};
 ghost use Rattle.data_format.specs.Trees.{frame_tree, frame_trees};
@@ -7,16 +7,18 @@ ghost use Rattle.datagram_core.specs.Samples.{IsSampleOf};
 ghost use Rattle.datagram_core.specs.Tables.{samples_read};
 ghost use Rattle.datagram_core.specs.Trees.{tree_of};
 ghost use Rattle.books_spec.specs.Items.{Datagram as Given, Item, Got, Malformed as Faulty, stream_of, Limits as Room};
-ghost use Rattle.books_spec.specs.Books.{books, taken, taken_now, totals, listed_streams, listed_sources, most_entries};
+ghost use Rattle.books_spec.specs.Listing.{same_stream, among};
+ghost use Rattle.books_spec.specs.Books.{books, taken, taken_now, totals, stream_boots, listed_streams, listed_sources, most_entries};
 ghost use Rattle.stream_books.specs.Streams.{IsAt};
 ghost use Rattle.stream_books.specs.Taken.{taken_in_books};
 ghost use Rattle.collector_tables.specs.Keys.{stream_in};
+ghost use Rattle.collector_tables.specs.Listed.{StreamsStand};
 ghost use Rattle.collector_views.specs.Limits.{limits_in, refused_limit};
 ghost use Rattle.collector_views.specs.Views.{stream_shown, source_shown, totals_shown};
 ghost use Rattle.flow_collector.specs.Items.{datagram_in, sample_in, samples_in};
 ghost use Rattle.flow_collector.specs.Collectors.{StandsFor};
 ghost use Rattle.flow_collector.specs.Shown.{sample_shown};
-ghost use Rattle.flow_collector.specs.Steps.{with_samples, with_sample, Enters, Midway, boot_number};
+ghost use Rattle.flow_collector.specs.Steps.{is_first, is_unlisted, with_samples, with_sample, Enters, Midway, boot_number};
 ghost use Rattle.flow_collector.specs.Refusals.{IsRefusedBy};
 
 use crate::OpenRefusal;
@@ -119,7 +121,7 @@ impl Collector {
             sub_agent: head.sub_agent,
         };
         let taken = self.take_head(stream, at, head.uptime, head.sequence);
-        if taken == Taken::First {
+        if is_entered(taken) {
             self.enter_samples(stream, datagram.samples());
         }
         taken
@@ -144,9 +146,7 @@ impl Collector {
             uptime,
             sequence,
         );
-        if taken == Taken::Unlisted {
-            self.totals.unlisted += 1;
-        }
+        self.totals.unlisted += unlisted_by(taken);
         taken
     }
 
@@ -158,10 +158,19 @@ impl Collector {
             → StandsFor self.old l (Got (with_samples d []) ∷ items)
             → StandsFor self.new l (Got (with_samples d (samples_in (frame_trees samples_read samples.entry))) ∷ items) }
     {
-        let boot = self.streams.boots(&stream);
+        let boot = self.boots(&stream);
         while let Some(sample) = samples.next() {
             self.enter_sample(stream, boot, &sample);
         }
+    }
+
+    // How many boots a stream had.
+    fn boots(&self, stream: &StreamKey) -> u64
+        ensures { (l : Room) (items : List Item) → StreamsStand l self.now.streams.entries items
+            → among same_stream (listed_streams l items) (stream_in stream.now) ≡ true
+            → result ≡ length (stream_boots l (stream_in stream.now) items) }
+    {
+        self.streams.boots(stream)
     }
 
     // Enters one sample more of the datagram, which is in this boot of its stream.
@@ -172,6 +181,7 @@ impl Collector {
         ensures stands { (l : Room) (items : List Item) (d : Given) (f : FrameView) → Enters l items stream d
             → IsSampleOf f sample.now → StandsFor self.old l (Got d ∷ items)
             → StandsFor self.new l (Got (with_sample d (sample_in (frame_tree samples_read f))) ∷ items) }
+        ensures streams { self.new.streams ≡ self.old.streams }
     {
         match read_sample(sample) {
             Some(shown) => self.enter(stream, boot, shown),
@@ -187,6 +197,7 @@ impl Collector {
         ensures stands { (l : Room) (items : List Item) (d : Given) → Enters l items stream d
             → StandsFor self.old l (Got d ∷ items)
             → StandsFor self.new l (Got (with_sample d (sample_shown (Some shown))) ∷ items) }
+        ensures streams { self.new.streams ≡ self.old.streams }
     {
         let key = SourceKey {
             stream,
@@ -265,7 +276,7 @@ impl Collector {
     {
         let (key, record) = self.sources.get(place)?;
         let stream = self.streams.place(&key.stream)?;
-        let boots = self.streams.boots(&key.stream);
+        let boots = self.boots(&key.stream);
         Some(SourceView {
             stream: stream as u32 + 1,
             flow: key.flow,
@@ -291,3 +302,23 @@ const NO_TOTALS: Totals = Totals {
     other: 0,
     first_fault: None,
 };
+
+// 1 where a datagram was answered `Unlisted`, and else 0.
+fn unlisted_by(taken: Taken) -> u64
+    ensures { result ≡ cond (is_unlisted (taken_in_books taken)) 1 0 }
+{
+    match taken {
+        Taken::Unlisted => 1,
+        _ => 0,
+    }
+}
+
+// Whether the samples of a datagram that was answered so are entered.
+fn is_entered(taken: Taken) -> bool
+    ensures { result ≡ is_first (taken_in_books taken) }
+{
+    match taken {
+        Taken::First => true,
+        _ => false,
+    }
+}

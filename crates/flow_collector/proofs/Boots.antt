@@ -1,0 +1,168 @@
+-- A datagram none of whose samples is entered.
+use Rattle.std.proofs.Common.{◌≡◌, ℕ, Bool, true, false, cond, List, [], ◌∷◌, length, map, refl, sym, ap, subst, ◌∙◌, true≢false}
+use Rattle.std.specs.List.{filter_map}
+use Rattle.count_spec.specs.Windows.{answer, counted}
+use Rattle.count_spec.specs.Boots.{sequences, BootPlace, Current, Next, Stale, boot_place, placed, boots}
+use Rattle.books_spec.specs.Items.{SourceId, Reading, Sample, Datagram, stamp_of, Item, Got, stream_of, Source, Limits}
+use Rattle.books_spec.specs.Listing.{same_stream, among}
+use Rattle.books_spec.specs.Books.{listed_streams, own, stream_boots, Taken, First, Repeat, Late, Unlisted, Malformed_entry, Spent, taken_of, taken_at, taken_in, taken_now, samples_at, onto, Entered, entered_in, entered, source_of, sources_of, first_samples, reading_of, readings, source_boots}
+use Rattle.books_spec.specs.Books as books
+use Rattle.books_spec.proofs.Keys.{stream-same}
+use Rattle.stream_books.specs.Sources.{StandsFor}
+use Rattle.stream_books.specs.declared.source.SourceRecord.{SourceRecord}
+use Rattle.stream_books.specs.declared.source.SourceRecord.TheVariants.{Flow, Counters}
+use Rattle.flow_collector.specs.Steps.{is_first, with_samples}
+use Rattle.flow_collector.proofs.Entering.{place-same, taken-same}
+use Rattle.flow_collector.proofs.Lists.{length-map-all}
+
+-- ---- no samples
+
+samples-none : (t : Taken) → samples_at t [] ≡ []
+samples-none First = refl
+samples-none Repeat = refl
+samples-none Late = refl
+samples-none books.Stale = refl
+samples-none Unlisted = refl
+samples-none Malformed_entry = refl
+samples-none Spent = refl
+
+pub entered-none : (l : Limits) (items : List Item) (d : Datagram)
+    → entered l (Got (with_samples d []) ∷ items) ≡ entered l items
+entered-none l items d =
+    ap (λ xs. onto (map (entered_in (stream_of d)) xs) (entered l items))
+    (samples-none (taken_now l items (Got (with_samples d []))))
+
+pub sources-none : (l : Limits) (items : List Item) (d : Datagram)
+    → sources_of l (Got (with_samples d []) ∷ items) ≡ sources_of l items
+sources-none l items d = ap (filter_map source_of) (entered-none l items d)
+
+-- boots with one more at most, without an entry
+pub data Grown (old new : List (List Reading)) : Type 0 where
+  same : new ≡ old → Grown old new
+  passed : new ≡ [] ∷ old → Grown old new
+
+-- what stands for boots stands after a boot in which nothing came
+pub grown-stands : (s : SourceRecord) (old new : List (List Reading)) → Grown old new → StandsFor s old → StandsFor s new
+grown-stands s old new (same e) st =
+    let P : List (List Reading) → Type 0 = λ bs. StandsFor s bs in
+    subst P (sym e) st
+grown-stands s old new (passed e) st =
+    let P : List (List Reading) → Type 0 = λ bs. StandsFor s bs in
+    subst P (sym e) (pass s old st)
+  where
+    pass : (r : SourceRecord) (bs : List (List Reading)) → StandsFor r bs → StandsFor r ([] ∷ bs)
+    pass (Counters c) bs was = was
+    pass (Flow f) bs was = record {
+      marks_stand = was.marks_stand;
+      pool_is = was.pool_is;
+      drops_are = was.drops_are;
+      rate_is = was.rate_is;
+    }
+
+placed-grown : (w : ℕ) (id : SourceId) (d : Datagram) (p : BootPlace) (bs : List (List Datagram))
+    → Grown (map (readings w id) bs) (map (readings w id) (placed p (with_samples d []) bs))
+placed-grown w id d Current [] = passed (
+    ap (λ xs. filter_map (reading_of id) (onto xs []) ∷ [])
+    (samples-none (taken_of (answer w (counted w []) d.head.sequence))))
+placed-grown w id d Current (current ∷ closed) = same (
+    ap (λ xs. filter_map (reading_of id) (onto xs (first_samples w current)) ∷ map (readings w id) closed)
+    (samples-none (taken_of (answer w (counted w (sequences stamp_of current)) d.head.sequence))))
+placed-grown w id d Next bs = passed (
+    ap (λ xs. filter_map (reading_of id) (onto xs []) ∷ map (readings w id) bs)
+    (samples-none (taken_of (answer w (counted w []) d.head.sequence))))
+placed-grown w id d Stale bs = same refl
+
+pub source-boots-none : (l : Limits) (items : List Item) (d : Datagram) (k : Source)
+    → Grown (source_boots l k items) (source_boots l k (Got (with_samples d []) ∷ items))
+source-boots-none l items d k = go (same_stream k.stream (stream_of d))
+  where
+    go : (b : Bool) → Grown (source_boots l k items)
+        (map (readings l.datagram_width k.id) (boots stamp_of l.boot_slack l.datagram_width
+        (cond b (with_samples d [] ∷ own k.stream items) (own k.stream items))))
+    go false = same refl
+    go true =
+        let bs = stream_boots l k.stream items in
+        placed-grown l.datagram_width k.id d (boot_place stamp_of l.boot_slack l.datagram_width bs (with_samples d [])) bs
+
+-- ---- a datagram whose samples aren't entered
+
+samples-not_first : (t : Taken) (xs : List Sample) → is_first t ≡ false → samples_at t [] ≡ samples_at t xs
+samples-not_first First xs not = absurd (true≢false not)
+samples-not_first Repeat xs not = refl
+samples-not_first Late xs not = refl
+samples-not_first books.Stale xs not = refl
+samples-not_first Unlisted xs not = refl
+samples-not_first Malformed_entry xs not = refl
+samples-not_first Spent xs not = refl
+
+pub entered-not_first : (l : Limits) (items : List Item) (d : Datagram) → is_first (taken_now l items (Got d)) ≡ false
+    → entered l (Got (with_samples d []) ∷ items) ≡ entered l (Got d ∷ items)
+entered-not_first l items d not =
+    ap (λ t. onto (map (entered_in (stream_of d)) (samples_at t [])) (entered l items)) (taken-same l items d [])
+    ∙ ap (λ xs. onto (map (entered_in (stream_of d)) xs) (entered l items))
+    (samples-not_first (taken_now l items (Got d)) d.samples not)
+
+placed-not_first : (w : ℕ) (id : SourceId) (d : Datagram) (p : BootPlace) (bs : List (List Datagram))
+    → is_first (taken_at w p bs d.head.sequence) ≡ false
+    → map (readings w id) (placed p (with_samples d []) bs) ≡ map (readings w id) (placed p d bs)
+placed-not_first w id d Current [] not =
+    ap (λ xs. filter_map (reading_of id) (onto xs []) ∷ [])
+    (samples-not_first (taken_of (answer w (counted w []) d.head.sequence)) d.samples not)
+placed-not_first w id d Current (current ∷ closed) not =
+    ap (λ xs. filter_map (reading_of id) (onto xs (first_samples w current)) ∷ map (readings w id) closed)
+    (samples-not_first (taken_of (answer w (counted w (sequences stamp_of current)) d.head.sequence)) d.samples not)
+placed-not_first w id d Next bs not = absurd (true≢false not)
+placed-not_first w id d Stale bs not = refl
+
+pub source-boots-not_first : (l : Limits) (items : List Item) (d : Datagram) (k : Source)
+    → among same_stream (listed_streams l (Got d ∷ items)) k.stream ≡ true
+    → is_first (taken_now l items (Got d)) ≡ false
+    → source_boots l k (Got (with_samples d []) ∷ items) ≡ source_boots l k (Got d ∷ items)
+source-boots-not_first l items d k there not = go (same_stream k.stream (stream_of d)) refl
+  where
+    go : (b : Bool) → same_stream k.stream (stream_of d) ≡ b
+        → map (readings l.datagram_width k.id) (boots stamp_of l.boot_slack l.datagram_width
+        (cond b (with_samples d [] ∷ own k.stream items) (own k.stream items)))
+        ≡ map (readings l.datagram_width k.id) (boots stamp_of l.boot_slack l.datagram_width
+        (cond b (d ∷ own k.stream items) (own k.stream items)))
+    go false e = refl
+    go true e =
+        let this : k.stream ≡ stream_of d = stream-same.to k.stream (stream_of d) e in
+        let bs : List (List Datagram) = stream_boots l k.stream items in
+        let listed_now : among same_stream (listed_streams l (Got d ∷ items)) (stream_of d) ≡ true =
+        ap (among same_stream (listed_streams l (Got d ∷ items))) (sym this) ∙ there in
+        let answered : taken_now l items (Got d) ≡ taken_in l bs d =
+        ap (λ b. cond b (taken_in l (stream_boots l (stream_of d) items) d) Unlisted) listed_now
+        ∙ ap (λ s. taken_in l (stream_boots l s items) d) (sym this) in
+        ap (λ p. map (readings l.datagram_width k.id) (placed p (with_samples d []) bs))
+        (place-same l.boot_slack l.datagram_width bs d [])
+        ∙ placed-not_first l.datagram_width k.id d (boot_place stamp_of l.boot_slack l.datagram_width bs d) bs
+        (ap is_first (sym answered) ∙ not)
+
+-- ---- how many boots there are
+
+length-placed : (p : BootPlace) (d : Datagram) (xs : List Sample) (bs : List (List Datagram))
+    → length (placed p (with_samples d xs) bs) ≡ length (placed p d bs)
+length-placed Current d xs [] = refl
+length-placed Current d xs (current ∷ closed) = refl
+length-placed Next d xs bs = refl
+length-placed Stale d xs bs = refl
+
+pub boots-same : (l : Limits) (items : List Item) (d : Datagram) (xs : List Sample)
+    → length (stream_boots l (stream_of d) (Got (with_samples d xs) ∷ items))
+    ≡ length (stream_boots l (stream_of d) (Got d ∷ items))
+boots-same l items d xs = go (same_stream (stream_of d) (stream_of d))
+  where
+    go : (b : Bool) → length (boots stamp_of l.boot_slack l.datagram_width
+        (cond b (with_samples d xs ∷ own (stream_of d) items) (own (stream_of d) items)))
+        ≡ length (boots stamp_of l.boot_slack l.datagram_width
+        (cond b (d ∷ own (stream_of d) items) (own (stream_of d) items)))
+    go false = refl
+    go true =
+        let bs : List (List Datagram) = stream_boots l (stream_of d) items in
+        ap (λ p. length (placed p (with_samples d xs) bs)) (place-same l.boot_slack l.datagram_width bs d xs)
+        ∙ length-placed (boot_place stamp_of l.boot_slack l.datagram_width bs d) d xs bs
+
+pub source-boots-length : (l : Limits) (k : Source) (items : List Item)
+    → length (source_boots l k items) ≡ length (stream_boots l k.stream items)
+source-boots-length l k items = length-map-all (readings l.datagram_width k.id) (stream_boots l k.stream items)

@@ -1,0 +1,12 @@
+pub mod Readings
+pub mod Lists
+pub mod Entering
+pub mod Boots
+pub mod Counts
+pub mod Steps
+pub mod Moves
+pub mod Kept
+pub mod Enters
+pub mod SoFar
+pub mod Takes
+pub mod Shows

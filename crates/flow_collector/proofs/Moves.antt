@@ -1,0 +1,239 @@
+-- A collector that stands for some items stands for one more after each call.
+use Rattle.std.proofs.Common.{◌≡◌, ℕ, ◌+◌, Bool, true, false, cond, if◌then◌else◌, Option, Some, None, List, [], ◌∷◌, ◌++◌, length, take, zero, suc, refl, sym, ap, subst, ◌∙◌, arith}
+use Rattle.std.specs.List.{count_by, filter_map}
+use Rattle.count_spec.proofs.Counts.{count_by-cons}
+use Rattle.wire_spec.specs.declared.fault.Fault.{Fault}
+use Rattle.books_spec.specs.Items.{SourceId, Reading, Sample, Of, Other, Datagram, Item, Got, Malformed, stream_of, Source, Limits}
+use Rattle.books_spec.specs.Listing.{same_source, among, listed, unlisted}
+use Rattle.books_spec.specs.Books.{is_malformed, FirstFault, fault_after, first_fault, Taken, First, taken_now, entered_in, Entered, source_of, is_other, entered, sources_of, source_boots, Totals, totals}
+use Rattle.books_spec.proofs.Keys.{source-same}
+use Rattle.stream_books.specs.Sources.{StandsFor as KeepsSource}
+use Rattle.stream_books.specs.Streams.{StreamState}
+use Rattle.stream_books.specs.declared.source.SourceRecord.{SourceRecord}
+use Rattle.collector_tables.specs.declared.keys.StreamKey.{StreamKey}
+use Rattle.collector_tables.specs.declared.keys.SourceKey.{SourceKey}
+use Rattle.collector_tables.specs.Keys.{source_in}
+use Rattle.collector_tables.specs.Tables.{Table, keys_in}
+use Rattle.collector_tables.specs.Listed.{StreamsStand}
+use Rattle.collector_tables.specs.Sources.{SourceStands, SourcesStand, after_reading}
+use Rattle.collector_tables.proofs.Tables.{each-map}
+use Rattle.flow_collector.specs.Collectors.{CollectorState, StandsFor}
+use Rattle.flow_collector.specs.Steps.{is_first, is_unlisted, with_samples, with_sample}
+use Rattle.flow_collector.proofs.Entering.{entered-one_more, sources-one_more, source-boots-of, source-boots-other}
+use Rattle.flow_collector.proofs.Boots.{sources-none, grown-stands, source-boots-none, entered-not_first, source-boots-not_first}
+use Rattle.flow_collector.proofs.Counts.{source-stream}
+use Rattle.flow_collector.proofs.Lists.{each-listed}
+use Rattle.flow_collector.proofs.Steps.{streams-same, streams-malformed, faulty, totals-malformed, headed, totals-head, totals-not_first}
+
+-- ---- a fault
+
+pub reject-stands : (s : CollectorState) (l : Limits) (items : List Item) (f : Fault) (first : Option FirstFault)
+    → first ≡ fault_after s.totals.first_fault s.totals.entries (Malformed f) → StandsFor s l items
+    → StandsFor (record s { totals = record (faulty s.totals f) { first_fault = first } }) l (Malformed f ∷ items)
+reject-stands s l items f first is st = record {
+  limits_are = st.limits_are;
+  stream_limit = st.stream_limit;
+  source_limit = st.source_limit;
+  streams_stand = streams-malformed l s.streams.entries items f st.streams_stand;
+  sources_stand = st.sources_stand;
+  totals_are = (λ j. record (faulty s.totals f) { first_fault = is j }) ∙ ap (λ t. faulty t f) st.totals_are
+      ∙ totals-malformed l items f;
+}
+
+-- ---- a datagram, as though it had no samples
+
+pub head-stands : (s : CollectorState) (l : Limits) (items : List Item) (d : Datagram)
+    (streams : Table StreamKey StreamState) (t : Taken) (unlisted_now : ℕ) → t ≡ taken_now l items (Got d)
+    → unlisted_now ≡ s.totals.unlisted + cond (is_unlisted t) 1 0
+    → streams.limit ≡ s.streams.limit → StreamsStand l streams.entries (Got d ∷ items) → StandsFor s l items
+    → StandsFor (record s { streams = streams; totals = headed s.totals unlisted_now }) l
+    (Got (with_samples d []) ∷ items)
+head-stands s l items d streams t unlisted_now answer count limit now st =
+    let sources = sources-none l items d in
+    let was = st.sources_stand in
+    record {
+      limits_are = st.limits_are;
+      stream_limit = limit ∙ st.stream_limit;
+      source_limit = st.source_limit;
+      streams_stand = streams-same l streams.entries items d [] now;
+      sources_stand = record {
+        keys_are = was.keys_are ∙ (λ j. listed same_source l.sources (sym sources j));
+        each = each-map source_in same_source (SourceStands l.sample_width (λ k. source_boots l k items))
+            (SourceStands l.sample_width (λ k. source_boots l k (Got (with_samples d []) ∷ items))) s.sources.entries
+            (λ k r kept. record {
+              kind = kept.kind;
+              width_is = kept.width_is;
+              stands = grown-stands r (source_boots l k items) (source_boots l k (Got (with_samples d []) ∷ items))
+                  (source-boots-none l items d k) kept.stands;
+            }) was.each;
+      };
+      totals_are = (λ j. headed (st.totals_are j)
+          ((count ∙ (λ i. (st.totals_are i).unlisted + cond (is_unlisted (answer i)) 1 0)) j)) ∙ totals-head l items d;
+    }
+
+-- a datagram whose samples aren't entered
+pub not_first-stands : (s : CollectorState) (l : Limits) (items : List Item) (d : Datagram)
+    → is_first (taken_now l items (Got d)) ≡ false → StandsFor s l (Got (with_samples d []) ∷ items)
+    → StandsFor s l (Got d ∷ items)
+not_first-stands s l items d not st =
+    let same : sources_of l (Got (with_samples d []) ∷ items) ≡ sources_of l (Got d ∷ items) =
+    ap (filter_map source_of) (entered-not_first l items d not) in
+    let was = st.sources_stand in
+    record {
+      limits_are = st.limits_are;
+      stream_limit = st.stream_limit;
+      source_limit = st.source_limit;
+      streams_stand = streams-same l s.streams.entries items (with_samples d []) d.samples st.streams_stand;
+      sources_stand = record {
+        keys_are = was.keys_are ∙ (λ j. listed same_source l.sources (same j));
+        each = each-listed same_source source-same source_in
+            (SourceStands l.sample_width (λ k. source_boots l k (Got (with_samples d []) ∷ items)))
+            (SourceStands l.sample_width (λ k. source_boots l k (Got d ∷ items))) s.sources.entries
+            (λ k r there kept. record {
+              kind = kept.kind;
+              width_is = kept.width_is;
+              stands = keeps k r there kept.stands;
+            }) was.each;
+      };
+      totals_are = st.totals_are ∙ totals-not_first l items d not;
+    }
+  where
+    keeps : (k : Source) (r : SourceRecord) → among same_source (keys_in source_in s.sources.entries) k ≡ true
+        → KeepsSource r (source_boots l k (Got (with_samples d []) ∷ items))
+        → KeepsSource r (source_boots l k (Got d ∷ items))
+    keeps k r there old =
+        let P : List Source → Type 0 = λ keys. among same_source keys k ≡ true in
+        let stream = source-stream l (Got (with_samples d []) ∷ items) k (subst P st.sources_stand.keys_are there) in
+        let R : List (List Reading) → Type 0 = λ bs. KeepsSource r bs in
+        subst R (source-boots-not_first l items d k stream not) old
+
+-- ---- one sample more
+
+-- the counts after a sample of another format, and after one of a source that is listed or isn't
+abbrev pub with_other : Totals → Totals
+with_other t = record t { other = t.other + 1 }
+
+abbrev pub with_listed : Totals → ℕ → Totals
+with_listed t unlisted_now = record t { unlisted_samples = unlisted_now }
+
+count-same : (items : List Item) (d : Datagram) (xs : List Sample)
+    → count_by is_malformed (Got d ∷ items) ≡ count_by is_malformed (Got (with_samples d xs) ∷ items)
+count-same items d xs =
+    count_by-cons is_malformed (Got d) items ∙ sym (count_by-cons is_malformed (Got (with_samples d xs)) items)
+
+fault-same : (l : Limits) (items : List Item) (d : Datagram) (xs : List Sample)
+    → first_fault (Got d ∷ items) ≡ first_fault (Got (with_samples d xs) ∷ items)
+fault-same l items d xs = go (first_fault items)
+  where
+    go : (o : Option FirstFault) → fault_after o (length items) (Got d) ≡ fault_after o (length items) (Got (with_samples d xs))
+    go None = refl
+    go (Some x) = refl
+
+pub other-stands : (s : CollectorState) (l : Limits) (items : List Item) (d : Datagram)
+    → taken_now l items (Got d) ≡ First → StandsFor s l (Got d ∷ items)
+    → StandsFor (record s { totals = with_other s.totals }) l (Got (with_sample d Other) ∷ items)
+other-stands s l items d first st =
+    let sources = sources-one_more l items d Other first in
+    let more = entered-one_more l items d Other first in
+    let count = count_by-cons (λ (e : Entered). is_other e.sample) (entered_in (stream_of d) Other) (entered l (Got d ∷ items)) in
+    let other : count_by (λ (e : Entered). is_other e.sample) (entered l (Got d ∷ items)) + 1
+    ≡ count_by (λ (e : Entered). is_other e.sample) (entered_in (stream_of d) Other ∷ entered l (Got d ∷ items)) =
+    omega (arith, count) in
+    let boots : (λ k. source_boots l k (Got d ∷ items)) ≡ (λ k. source_boots l k (Got (with_sample d Other) ∷ items)) =
+    λ j k. source-boots-other l items d k first j in
+    let malformed = count-same items d (d.samples ++ Other ∷ []) in
+    let fault = fault-same l items d (d.samples ++ Other ∷ []) in
+    record {
+      limits_are = st.limits_are;
+      stream_limit = st.stream_limit;
+      source_limit = st.source_limit;
+      streams_stand = streams-same l s.streams.entries items d (d.samples ++ Other ∷ []) st.streams_stand;
+      sources_stand =
+          let P : List Source → Type 0 = λ arrived.
+          SourcesStand l.sources l.sample_width s.sources.entries arrived (λ k. source_boots l k (Got d ∷ items)) in
+          let Q : (Source → List (List Reading)) → Type 0 = λ boots_of. SourcesStand l.sources l.sample_width
+          s.sources.entries (sources_of l (Got (with_sample d Other) ∷ items)) boots_of in
+          subst Q boots (subst P (sym sources) st.sources_stand);
+      totals_are = ap with_other st.totals_are ∙ (λ j. record {
+        entries = length (Got d ∷ items);
+        malformed = malformed j;
+        unlisted = (totals l (Got d ∷ items)).unlisted;
+        unlisted_samples = unlisted same_source l.sources (sym sources j);
+        other = (other ∙ (λ i. count_by (λ (e : Entered). is_other e.sample) (sym more i))) j;
+        first_fault = fault j;
+      });
+    }
+
+pub of-stands : (s : CollectorState) (l : Limits) (items : List Item) (d : Datagram) (id : SourceId) (r : Reading)
+    (sources : Table SourceKey SourceRecord) (found : Bool) (unlisted_now : ℕ) → taken_now l items (Got d) ≡ First
+    → unlisted_now ≡ s.totals.unlisted_samples + (if found then 0 else 1)
+    → sources.limit ≡ s.sources.limit
+    → SourcesStand l.sources l.sample_width sources.entries
+    (record { stream = stream_of d; id = id } ∷ sources_of l (Got d ∷ items))
+    (after_reading (record { stream = stream_of d; id = id }) r (λ k. source_boots l k (Got d ∷ items)))
+    → unlisted same_source l.sources (record { stream = stream_of d; id = id } ∷ sources_of l (Got d ∷ items))
+    ≡ unlisted same_source l.sources (sources_of l (Got d ∷ items)) + (if found then 0 else 1)
+    → StandsFor s l (Got d ∷ items)
+    → StandsFor (record s { sources = sources; totals = with_listed s.totals unlisted_now }) l
+    (Got (with_sample d (Of id r)) ∷ items)
+of-stands s l items d id r table found unlisted_now first count_now limit now counted st =
+    let source : Source = record { stream = stream_of d; id = id } in
+    let x : Sample = Of id r in
+    let sources : sources_of l (Got (with_sample d x) ∷ items) ≡ source ∷ sources_of l (Got d ∷ items) =
+    sources-one_more l items d x first in
+    let more = entered-one_more l items d x first in
+    let count = count_by-cons (λ (e : Entered). is_other e.sample) (entered_in (stream_of d) x) (entered l (Got d ∷ items)) in
+    let other : count_by (λ (e : Entered). is_other e.sample) (entered l (Got d ∷ items))
+    ≡ count_by (λ (e : Entered). is_other e.sample) (entered_in (stream_of d) x ∷ entered l (Got d ∷ items)) =
+    omega (arith, count) in
+    let boots : after_reading source r (λ k. source_boots l k (Got d ∷ items))
+    ≡ (λ k. source_boots l k (Got (with_sample d x) ∷ items)) =
+    λ j k. source-boots-of l items d id r k first j in
+    let malformed = count-same items d (d.samples ++ x ∷ []) in
+    let fault = fault-same l items d (d.samples ++ x ∷ []) in
+    record {
+      limits_are = st.limits_are;
+      stream_limit = st.stream_limit;
+      source_limit = limit ∙ st.source_limit;
+      streams_stand = streams-same l s.streams.entries items d (d.samples ++ x ∷ []) st.streams_stand;
+      sources_stand =
+          let P : List Source → Type 0 = λ arrived. SourcesStand l.sources l.sample_width table.entries arrived
+          (after_reading source r (λ k. source_boots l k (Got d ∷ items))) in
+          let Q : (Source → List (List Reading)) → Type 0 = λ boots_of. SourcesStand l.sources l.sample_width
+          table.entries (sources_of l (Got (with_sample d x) ∷ items)) boots_of in
+          subst Q boots (subst P (sym sources) now);
+      totals_are = (λ j. with_listed (st.totals_are j)
+          ((count_now ∙ (λ i. (st.totals_are i).unlisted_samples + (if found then 0 else 1))) j)) ∙ (λ j. record {
+            entries = length (Got d ∷ items);
+            malformed = malformed j;
+            unlisted = (totals l (Got d ∷ items)).unlisted;
+            unlisted_samples = (sym counted ∙ (λ i. unlisted same_source l.sources (sym sources i))) j;
+            other = (other ∙ (λ i. count_by (λ (e : Entered). is_other e.sample) (sym more i))) j;
+            first_fault = fault j;
+          });
+    }
+
+-- ---- nothing
+
+abbrev pub no_totals : Totals
+no_totals = record { entries = 0; malformed = 0; unlisted = 0; unlisted_samples = 0; other = 0; first_fault = None }
+
+pub opened-stands : (l : Limits) (streams : Table StreamKey StreamState) (sources : Table SourceKey SourceRecord)
+    → streams.entries ≡ [] → streams.limit ≡ l.streams → sources.entries ≡ [] → sources.limit ≡ l.sources
+    → StandsFor (record { limits = l; streams = streams; sources = sources; totals = no_totals }) l []
+opened-stands l streams sources no_streams stream_room no_sources source_room =
+    let P : List (StreamKey × StreamState) → Type 0 = λ entries. StreamsStand l entries [] in
+    let Q : List (SourceKey × SourceRecord) → Type 0 = λ entries.
+    SourcesStand l.sources l.sample_width entries (sources_of l []) (λ k. source_boots l k []) in
+    record {
+      limits_are = refl;
+      stream_limit = stream_room;
+      source_limit = source_room;
+      streams_stand = subst P (sym no_streams) (record { keys_are = none l.streams; each = tt });
+      sources_stand = subst Q (sym no_sources) (record { keys_are = none l.sources; each = tt });
+      totals_are = refl;
+    }
+  where
+    none : {X : Type 0} (n : ℕ) → ◌≡◌ {A = List X} [] (take n [])
+    none zero = refl
+    none (suc n) = refl

@@ -1,0 +1,85 @@
+-- A datagram is taken: its head, and then its samples where it is First.
+use Rattle.std.proofs.Common.{◌≡◌, ◌∙◌, ℕ, ◌<◌, Bool, true, false, cond, nat_le, List, [], ◌∷◌, length, refl, sym, ap, subst, true≢false, arith}
+use Rattle.std.proofs.lemmas.Bool.{leb-true}
+use Rattle.data_format.specs.Trees.{frame_trees}
+use Rattle.datagram_core.specs.declared.head.DatagramHead.{DatagramHead}
+use Rattle.datagram_core.specs.Heads.{DatagramView, head_of}
+use Rattle.datagram_core.specs.Tables.{samples_read}
+use Rattle.wire_spec.specs.Heads.{Head}
+use Rattle.books_spec.specs.Items.{Datagram, Item, Got, stream_of, Limits}
+use Rattle.books_spec.specs.Books.{Taken, First, Repeat, Late, Unlisted, Malformed_entry, Spent, taken, taken_now, most_entries}
+use Rattle.books_spec.specs.Books as books
+use Rattle.stream_books.specs.Streams.{IsAt}
+use Rattle.collector_tables.specs.declared.keys.StreamKey.{StreamKey}
+use Rattle.collector_tables.specs.Keys.{stream_in}
+use Rattle.flow_collector.specs.Items.{samples_in}
+use Rattle.flow_collector.specs.Collectors.{CollectorState, StandsFor, AreFew}
+use Rattle.flow_collector.specs.Steps.{is_first, with_samples, Enters, Midway}
+use Rattle.flow_collector.proofs.Entering.{taken-same}
+use Rattle.flow_collector.proofs.Kept.{entries-are}
+use Rattle.flow_collector.proofs.Moves.{not_first-stands}
+
+-- the answer where fewer than 2^48 entries were taken
+pub answered : (s : CollectorState) (l : Limits) (items : List Item) (item : Item) (t : Taken) → StandsFor s l items
+    → s.totals.entries < most_entries → t ≡ taken_now l items item → t ≡ taken l items item
+answered s l items item t st few is = go (nat_le most_entries (length items)) refl
+  where
+    go : (b : Bool) → nat_le most_entries (length items) ≡ b → t ≡ cond b Spent (taken_now l items item)
+    go true e =
+        let many = leb-true most_entries (length items) e in
+        let number = entries-are s l items st in
+        absurd (omega (arith, many, number, few))
+    go false e = is
+
+first-is : (t : Taken) → is_first t ≡ true → t ≡ First
+first-is First e = refl
+first-is Repeat e = absurd (true≢false (sym e))
+first-is Late e = absurd (true≢false (sym e))
+first-is books.Stale e = absurd (true≢false (sym e))
+first-is Unlisted e = absurd (true≢false (sym e))
+first-is Malformed_entry e = absurd (true≢false (sym e))
+first-is Spent e = absurd (true≢false (sym e))
+
+-- the datagram that this view is
+abbrev pub given : ℕ → DatagramView → Datagram
+given at d = record { arrival = at; head = d.head; samples = samples_in (frame_trees samples_read d.samples) }
+
+abbrev pub key_of : DatagramHead → StreamKey
+key_of h = record { agent = h.agent; sub_agent = h.sub_agent }
+
+pub key-stream : (at : ℕ) (d : DatagramView) (h : DatagramHead) → head_of h ≡ d.head
+    → stream_in (key_of h) ≡ stream_of (given at d)
+key-stream at d h is = ap (λ (x : Head). record { agent = x.agent; sub_agent = x.sub_agent }) is
+
+pub is-at : (at : ℕ) (d : DatagramView) (h : DatagramHead) → head_of h ≡ d.head → IsAt (given at d) at h.uptime h.sequence
+is-at at d h is = (refl, ap (λ (x : Head). x.uptime) (sym is), ap (λ (x : Head). x.sequence) (sym is))
+
+pub enters : (l : Limits) (items : List Item) (at : ℕ) (d : DatagramView) (h : DatagramHead) (t : Taken)
+    → head_of h ≡ d.head → is_first t ≡ true → t ≡ taken_now l items (Got (given at d))
+    → Enters l items (key_of h) (given at d)
+enters l items at d h t is first answer = record { stream = key-stream at d h is; first = sym answer ∙ first-is t first }
+
+-- the samples of a datagram that was taken may be entered
+pub may-enter : (now : CollectorState) (l : Limits) (items : List Item) (key : StreamKey) (d : Datagram)
+    → Enters l items key d → StandsFor now l (Got (with_samples d []) ∷ items) → AreFew items → length items < most_entries
+    → Midway now key 0
+may-enter now l items key d entering st few room =
+    let back = sym st.limits_are in
+    let E : Limits → Type 0 = λ x. Enters x items key (with_samples d []) in
+    let S : Limits → Type 0 = λ x. StandsFor now x (Got (with_samples d []) ∷ items) in
+    let first : Enters l items key (with_samples d []) =
+    record { stream = entering.stream; first = taken-same l items d [] ∙ entering.first } in
+    record {
+      items = items;
+      datagram = with_samples d [];
+      enters = subst E back first;
+      stands = subst S back st;
+      few_samples = few;
+      few_entries = room;
+      few = omega arith;
+    }
+
+-- a datagram that isn't First
+pub passes : (s : CollectorState) (l : Limits) (items : List Item) (d : Datagram) (t : Taken) → is_first t ≡ false
+    → t ≡ taken_now l items (Got d) → StandsFor s l (Got (with_samples d []) ∷ items) → StandsFor s l (Got d ∷ items)
+passes s l items d t not answer st = not_first-stands s l items d (ap is_first (sym answer) ∙ not) st

@@ -1,0 +1,46 @@
+use Rattle.std.proofs.Common.{◌∷◌, sym, subst, arith}
+use Rattle.books_spec.specs.Items.{Sample, Other, Got}
+use Rattle.flow_collector.specs.Collectors.{CollectorState, collector_state, StandsFor}
+use Rattle.flow_collector.specs.Steps.{Midway, with_sample}
+use Rattle.flow_collector.proofs.Kept.{other-few}
+use Rattle.flow_collector.proofs.Lists.{length-last}
+use Rattle.flow_collector.proofs.Moves.{with_other, other-stands}
+use Rattle.flow_collector.proofs.collector.Collector.enter_sample.Goals as goal
+
+pub overflow_add-self : goal.overflow_add-self
+overflow_add-self c =
+    let s : CollectorState = collector_state c.self.inside in
+    let v = c.self.invariant in
+    let some = other-few s s.limits v.items v.stands v.few_samples in
+    let few = v.few_entries in
+    omega (arith, some, few)
+
+pub invariant_of-self : goal.invariant_of-self
+invariant_of-self c =
+    let s : CollectorState = collector_state c.self.inside in
+    let v = c.self.invariant in
+    let M : CollectorState → Type 0 = λ t. Midway t c.args.stream 8190 in
+    let mid = subst M (sym c.self.view_is) c.requires.midway in
+    let longer = length-last mid.datagram.samples Other in
+    let few = mid.few in
+    let room = mid.few_entries in
+    record {
+      within = v.within;
+      items = Got (with_sample mid.datagram Other) ∷ mid.items;
+      stands = other-stands s s.limits mid.items mid.datagram mid.enters.first mid.stands;
+      few_samples = (omega (arith, longer, few), mid.few_samples);
+      few_entries = omega (arith, room);
+    }
+
+pub returns-in-Some-clause-stands : goal.returns-in-Some-clause-stands
+returns-in-Some-clause-stands c = λ l items d f enters of_frame st.
+    let P : Sample → Type 0 = λ x. StandsFor c.enter.new.self l (Got (with_sample d x) ∷ items) in
+    subst P (c.in-Some.ensures f of_frame) (c.enter.ensures.stands l items d enters st)
+
+pub returns-in-None-clause-stands : goal.returns-in-None-clause-stands
+returns-in-None-clause-stands c = λ l items d f enters of_frame st.
+    let s : CollectorState = collector_state c.self.inside in
+    let S : CollectorState → Type 0 = λ t. StandsFor t l (Got d ∷ items) in
+    let now = other-stands s l items d enters.first (subst S (sym c.self.view_is) st) in
+    let P : Sample → Type 0 = λ x. StandsFor (record s { totals = with_other s.totals }) l (Got (with_sample d x) ∷ items) in
+    subst P (c.in-None.ensures f of_frame) now

@@ -1,0 +1,80 @@
+use Rattle.std.proofs.Common.{◌≡◌, ◌∙◌, ◌<◌, List, ◌∷◌, length, sym, subst, arith}
+use Rattle.data_format.specs.Trees.{frame_trees}
+use Rattle.data_format.specs.Views.{FrameView}
+use Rattle.datagram_core.specs.Tables.{samples_read}
+use Rattle.books_spec.specs.Items.{Datagram, Got}
+use Rattle.books_spec.specs.Books.{taken, most_entries}
+use Rattle.stream_books.specs.Taken.{taken_in_books}
+use Rattle.flow_collector.specs.Items.{samples_in}
+use Rattle.flow_collector.specs.Collectors.{CollectorState, collector_state, StandsFor}
+use Rattle.flow_collector.specs.Steps.{with_samples}
+use Rattle.flow_collector.proofs.Kept.{entries-are}
+use Rattle.flow_collector.proofs.Readings.{datagram-in-tree}
+use Rattle.flow_collector.proofs.Takes.{answered, given, key_of, key-stream, is-at, enters, may-enter, passes}
+use Rattle.flow_collector.proofs.collector.Collector.take.Goals as goal
+
+pub enter_samples-requires-clause-midway : goal.enter_samples-requires-clause-midway
+enter_samples-requires-clause-midway c =
+    let s : CollectorState = collector_state c.self.inside in
+    let v = c.self.invariant in
+    let S : CollectorState → Type 0 = λ t. StandsFor t s.limits v.items in
+    let st = subst S c.self.view_is v.stands in
+    let number = entries-are s s.limits v.items v.stands in
+    let few = c.if-self-ge-MOST_ENTRIES.false in
+    let room : length v.items < most_entries = omega (arith, number, few) in
+    let key = key-stream c.args.at c.args.datagram.now c.head-head.result c.head-head.ensures in
+    let at = is-at c.args.at c.args.datagram.now c.head-head.result c.head-head.ensures in
+    let d : Datagram = given c.args.at c.args.datagram.now in
+    may-enter c.take_head-taken.new.self s.limits v.items (key_of c.head-head.result) d
+    (enters s.limits v.items c.args.at c.args.datagram.now c.head-head.result (taken_in_books c.take_head-taken.result)
+    c.head-head.ensures (sym c.if-is_entered.ensures) (c.take_head-taken.ensures.answer s.limits v.items d key at st))
+    (c.take_head-taken.ensures.stands s.limits v.items d key at st) v.few_samples room
+
+pub returns-then-is_entered-clause-stands : goal.returns-then-is_entered-clause-stands
+returns-then-is_entered-clause-stands c = λ l items few st.
+    let key = key-stream c.args.at c.args.datagram.now c.head-head.result c.head-head.ensures in
+    let at = is-at c.args.at c.args.datagram.now c.head-head.result c.head-head.ensures in
+    let d : Datagram = given c.args.at c.args.datagram.now in
+    let F : List FrameView → Type 0 = λ fs.
+    StandsFor c.enter_samples.new.self l (Got (with_samples d (samples_in (frame_trees samples_read fs))) ∷ items) in
+    let P : Datagram → Type 0 = λ x. StandsFor c.enter_samples.new.self l (Got x ∷ items) in
+    subst P (sym (datagram-in-tree c.args.at c.args.datagram.now)) (subst F c.samples.ensures.exact
+    (c.enter_samples.ensures.stands l items d
+    (enters l items c.args.at c.args.datagram.now c.head-head.result (taken_in_books c.take_head-taken.result)
+    c.head-head.ensures (sym c.if-is_entered.ensures) (c.take_head-taken.ensures.answer l items d key at st))
+    (c.take_head-taken.ensures.stands l items d key at st)))
+
+pub returns-else-is_entered-clause-stands : goal.returns-else-is_entered-clause-stands
+returns-else-is_entered-clause-stands c = λ l items few st.
+    let key = key-stream c.args.at c.args.datagram.now c.head-head.result c.head-head.ensures in
+    let at = is-at c.args.at c.args.datagram.now c.head-head.result c.head-head.ensures in
+    let d : Datagram = given c.args.at c.args.datagram.now in
+    let P : Datagram → Type 0 = λ x. StandsFor c.take_head-taken.new.self l (Got x ∷ items) in
+    subst P (sym (datagram-in-tree c.args.at c.args.datagram.now))
+    (passes c.take_head-taken.new.self l items d (taken_in_books c.take_head-taken.result)
+    (sym c.is_entered.ensures ∙ c.if-is_entered.false) (c.take_head-taken.ensures.answer l items d key at st)
+    (c.take_head-taken.ensures.stands l items d key at st))
+
+pub returns-then-is_entered-clause-answer : goal.returns-then-is_entered-clause-answer
+returns-then-is_entered-clause-answer c = λ l items st.
+    let s : CollectorState = collector_state c.self.inside in
+    let S : CollectorState → Type 0 = λ t. StandsFor t l items in
+    let key = key-stream c.args.at c.args.datagram.now c.head-head.result c.head-head.ensures in
+    let at = is-at c.args.at c.args.datagram.now c.head-head.result c.head-head.ensures in
+    let d : Datagram = given c.args.at c.args.datagram.now in
+    let P : Datagram → Type 0 = λ x. taken_in_books c.take_head-taken.result ≡ taken l items (Got x) in
+    subst P (sym (datagram-in-tree c.args.at c.args.datagram.now))
+    (answered s l items (Got d) (taken_in_books c.take_head-taken.result) (subst S (sym c.self.view_is) st)
+    c.if-self-ge-MOST_ENTRIES.false (c.take_head-taken.ensures.answer l items d key at st))
+
+pub returns-else-is_entered-clause-answer : goal.returns-else-is_entered-clause-answer
+returns-else-is_entered-clause-answer c = λ l items st.
+    let s : CollectorState = collector_state c.self.inside in
+    let S : CollectorState → Type 0 = λ t. StandsFor t l items in
+    let key = key-stream c.args.at c.args.datagram.now c.head-head.result c.head-head.ensures in
+    let at = is-at c.args.at c.args.datagram.now c.head-head.result c.head-head.ensures in
+    let d : Datagram = given c.args.at c.args.datagram.now in
+    let P : Datagram → Type 0 = λ x. taken_in_books c.take_head-taken.result ≡ taken l items (Got x) in
+    subst P (sym (datagram-in-tree c.args.at c.args.datagram.now))
+    (answered s l items (Got d) (taken_in_books c.take_head-taken.result) (subst S (sym c.self.view_is) st)
+    c.if-self-ge-MOST_ENTRIES.false (c.take_head-taken.ensures.answer l items d key at st))
