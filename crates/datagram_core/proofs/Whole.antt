@@ -20,13 +20,13 @@ use Rattle.datagram_core.specs.Tables.{datagram_over, samples_read, datagram_rea
 use Rattle.datagram_core.specs.Trees.{tree_of}
 
 -- a datagram of some parts
-abbrev as_datagram : Table → Parts → Tree
+abbrev pub as_datagram : Table → Parts → Tree
 as_datagram T x = Tree.union 5 (parts_tree T x)
 
-abbrev as_tree : Table → Parts × Remaining → Result (Tree × Remaining) Fault
+abbrev pub as_tree : Table → Parts × Remaining → Result (Tree × Remaining) Fault
 as_tree T x = Ok (as_datagram T x.0, x.1)
 
-parts_as_tree : (p : Pad) (T : Table) (b : Remaining)
+pub parts_as_tree : (p : Pad) (T : Table) (b : Remaining)
     → reading p (datagram_over T) b ≡ (behind_version_at p T b >>= as_tree T)
 parts_as_tree p T b = at_word (word_at b)
   where

@@ -5,4 +5,6 @@ pub mod Samples
 pub mod Records
 pub mod Ranges
 pub mod Parts
+pub mod Written
+pub mod Writers
 pub use Rattle.wire_spec.specs.Heads as WireHeads

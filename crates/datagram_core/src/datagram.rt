@@ -1,5 +1,8 @@
-ghost use Rattle.std.specs.Prelude.{◌≡◌, ◌≤◌, length, IfOk, IfErr};
+ghost use Rattle.std.specs.Prelude.{◌≡◌, ◌≤◌, length, Ok, IfOk, IfErr};
+ghost use Rattle.wire_spec.specs.declared.pad.Pad.{Pad};
+ghost use Rattle.wire_spec.specs.declared.pad.Pad.TheVariants.{Zero};
 ghost use Rattle.wire_spec.specs.Reading.{members_at};
+ghost use Rattle.wire_spec.specs.Spelling.{spell};
 ghost use Rattle.wire_spec.specs.Whole.{SpellsWhole, FailsWhole, whole_reading};
 ghost use Rattle.xdr_words.specs.Readers.{Reads, Gives, remaining};
 ghost use Rattle.data_format.specs.Frames.{frames_at};
@@ -30,14 +33,16 @@ pub struct Datagram<'a> {
 
 impl<'a> Model for Datagram<'a> {
     ghost use Rattle.std.specs.Prelude.{◌≤◌, length};
+    ghost use Rattle.wire_spec.specs.Spelling.{spell};
     ghost use Rattle.datagram_core.specs.Heads.{DatagramView, head_of};
+    ghost use Rattle.datagram_core.specs.Trees.{tree_of};
 
     ghost Value = { DatagramView };
 
     ghost view = { λ d. record { head = head_of d.head; samples = d.samples } };
 
     // A sample has at least eight bytes.
-    ghost invariant = { λ d. length d.samples ≤ 8191 };
+    ghost invariant = { λ d. (length d.samples ≤ 8191) × (length (spell (tree_of (record { head = head_of d.head; samples = d.samples }))) ≤ 65535) };
 }
 
 impl<'a> Datagram<'a> {
@@ -53,6 +58,12 @@ impl<'a> Datagram<'a> {
         // The body of each sample is the range of the bytes at its place, and so is the body of each of its records.
         ensures ranges { IfOk result (λ d. AreRanges bytes.now d.samples) }
         ensures nested { IfOk result (λ d. BodiesAreRanges bytes.now d.samples) }
+
+        // With zero padding the datagram has as many bytes; it is read from them again, however padding is read; and
+        // where zeros are asked for they are the bytes themselves.
+        ensures length { IfOk result (λ d. length (spell (tree_of d)) ≡ length bytes.now) }
+        ensures again { IfOk result (λ d. (p : Pad) → whole_reading p datagram_read (spell (tree_of d)) ≡ Ok (tree_of d)) }
+        ensures zero { IfOk result (λ d. pad ≡ Zero → spell (tree_of d) ≡ bytes.now) }
     {
         parse_parts(bytes, pad)
     }
@@ -68,6 +79,7 @@ impl<'a> Datagram<'a> {
     pub fn samples(&self) -> Samples<'a>
         ensures exact { result ≡ self.now.samples }
         ensures few { length result ≤ 8191 }
+        ensures short { length (spell (tree_of self.now)) ≤ 65535 }
     {
         self.samples.fork()
     }
@@ -96,10 +108,7 @@ fn parse_parts(bytes: &[u8], pad: Pad) -> Result<Datagram<'_>, Fault>
 }
 
 // The version, the head and the samples, or the first fault.
-fn read_parts<'a>(
-    cursor: &mut Cursor<'a>,
-    pad: Pad,
-) -> Result<(DatagramHead, Samples<'a>), Fault>
+fn read_parts<'a>(cursor: &mut Cursor<'a>, pad: Pad) -> Result<(DatagramHead, Samples<'a>), Fault>
     requires { pad ≡ cursor.old.pad }
     ensures { Reads (λ x. (head_trees (head_of x.0), x.1)) (λ f. f) cursor.old cursor.new result
         (behind_version_at pad samples_read (remaining cursor.old)) }

@@ -6,9 +6,14 @@ mod datagram;
 mod head;
 mod laws;
 mod record;
+mod record_writing;
 mod records;
+mod rewriting;
 mod sample;
 mod samples;
+mod writer;
+mod writer_appends;
+mod writer_parts;
 
 pub use datagram::Datagram;
 pub use head::DatagramHead;
@@ -16,6 +21,7 @@ pub use laws::datagrams_over_all_records;
 pub use records::{Record, Records};
 pub use sample::Sample;
 pub use samples::Samples;
+pub use writer::DatagramWriter;
 
 #[cfg(test)]
 mod record_tests;

@@ -2,9 +2,11 @@
 ghost use Rattle.std.specs.Prelude.{◌≡◌, ◌+◌, ◌<◌, ◌^◌, length, IfOk};
 ghost use Rattle.wire_spec.specs.Reading.{inside_at};
 ghost use Rattle.xdr_words.specs.Readers.{Gives};
-ghost use Rattle.data_format.specs.Views.{body_of, format_word, frame_view};
+ghost use Rattle.data_format.specs.Views.{IsFormat, body_of, format_word, frame_view};
 ghost use Rattle.datagram_core.specs.Records.{IsRecordFrom, record_tree, table_of};
+ghost use Rattle.datagram_core.specs.declared.records.RecordKind.TheVariants.{Flow, Counters};
 ghost use Rattle.datagram_core.specs.Tables.{flow_records_read, counter_records_read};
+ghost use Rattle.datagram_core.specs.Written.{HasKind};
 
 use crate::Record;
 use crate::records::RecordKind;
@@ -22,6 +24,7 @@ impl<'a> Record<'a> {
         ensures exact { Gives record_tree (λ f. f) result
             (inside_at pad (table_of kind) (format_word frame.entry.format) (body_of (frame_view frame.entry))) }
         ensures from { IfOk result (λ r. IsRecordFrom frame.entry r) }
+        ensures kind { IsFormat frame.entry.format → IfOk result (λ r. HasKind kind r) }
     {
         match kind {
             RecordKind::Flow => read_flow(frame, pad),
@@ -37,6 +40,7 @@ fn read_flow<'a>(frame: Frame<'a>, pad: Pad) -> Result<Record<'a>, Fault>
     ensures exact { Gives record_tree (λ f. f) result
         (inside_at pad flow_records_read (format_word frame.entry.format) (body_of (frame_view frame.entry))) }
     ensures from { IfOk result (λ r. IsRecordFrom frame.entry r) }
+    ensures kind { IsFormat frame.entry.format → IfOk result (λ r. HasKind Flow r) }
 {
     if frame.format.enterprise != 0 {
         return Ok(Record::Other(frame));
@@ -59,6 +63,7 @@ fn read_counters<'a>(frame: Frame<'a>, pad: Pad) -> Result<Record<'a>, Fault>
     ensures exact { Gives record_tree (λ f. f) result
         (inside_at pad counter_records_read (format_word frame.entry.format) (body_of (frame_view frame.entry))) }
     ensures from { IfOk result (λ r. IsRecordFrom frame.entry r) }
+    ensures kind { IsFormat frame.entry.format → IfOk result (λ r. HasKind Counters r) }
 {
     if frame.format.enterprise != 0 {
         return Ok(Record::Other(frame));

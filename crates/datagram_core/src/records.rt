@@ -2,6 +2,7 @@ ghost use Rattle.std.specs.Prelude.{◌≡◌, [], ◌∷◌, IfNone, IfSome};
 ghost use Rattle.data_format.specs.Trees.{AllPass, table_test};
 ghost use Rattle.data_format.specs.Views.{FrameView};
 ghost use Rattle.datagram_core.specs.Records.{IsRecordOf, table_of};
+ghost use Rattle.datagram_core.specs.Written.{HasKind};
 
 use data_format::{BodyCheck, Fault, Frame, Frames};
 use rec_counters::{EthernetCounters, IfCounters, VlanCounters};
@@ -90,6 +91,7 @@ impl<'a> Records<'a> {
         ensures none { IfNone result ((self.old.frames ≡ []) × (self.new.frames ≡ [])) }
         ensures some { IfSome result (λ r. (f : FrameView) × (self.old.frames ≡ f ∷ self.new.frames) × IsRecordOf self.old.kind f r) }
         ensures kind { self.new.kind ≡ self.old.kind }
+        ensures of_kind { IfSome result (λ r. HasKind self.old.kind r) }
     {
         let frame = self.frames.next()?;
         match Record::read(self.kind, frame, Pad::Any) {

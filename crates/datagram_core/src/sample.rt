@@ -5,6 +5,7 @@ ghost use Rattle.data_format.specs.Views.{body_of, format_word, frame_view};
 ghost use Rattle.datagram_core.specs.Records.{records_of};
 ghost use Rattle.datagram_core.specs.Samples.{IsFrom, HasRecords, sample_tree};
 ghost use Rattle.datagram_core.specs.Tables.{samples_read};
+ghost use Rattle.datagram_core.specs.Written.{IsUnreadOther};
 
 use crate::Records;
 use crate::records::RecordKind;
@@ -35,6 +36,7 @@ impl<'a> Sample<'a> {
         ensures exact { Gives sample_tree (λ f. f) result
             (inside_at pad samples_read (format_word frame.entry.format) (body_of (frame_view frame.entry))) }
         ensures from { IfOk result (λ s. IsFrom frame.entry s) }
+        ensures unread { IfOk result (λ s. IsUnreadOther s) }
     {
         if frame.format.enterprise != 0 {
             return Ok(Sample::Other(frame));
@@ -72,6 +74,7 @@ fn read_flow<'a>(frame: Frame<'a>, pad: Pad) -> Result<Sample<'a>, Fault>
     ensures exact { Gives sample_tree (λ f. f) result
         (inside_at pad samples_read (format_word frame.entry.format) (body_of (frame_view frame.entry))) }
     ensures from { IfOk result (λ s. IsFrom frame.entry s) }
+    ensures unread { IfOk result (λ s. IsUnreadOther s) }
 {
     Ok(Sample::Flow(FlowSample::read(frame, pad, &RecordKind::Flow)?))
 }
@@ -82,6 +85,7 @@ fn read_counters<'a>(frame: Frame<'a>, pad: Pad) -> Result<Sample<'a>, Fault>
     ensures exact { Gives sample_tree (λ f. f) result
         (inside_at pad samples_read (format_word frame.entry.format) (body_of (frame_view frame.entry))) }
     ensures from { IfOk result (λ s. IsFrom frame.entry s) }
+    ensures unread { IfOk result (λ s. IsUnreadOther s) }
 {
     Ok(Sample::Counters(CountersSample::read(frame, pad, &RecordKind::Counters)?))
 }
@@ -92,6 +96,7 @@ fn read_expanded_flow<'a>(frame: Frame<'a>, pad: Pad) -> Result<Sample<'a>, Faul
     ensures exact { Gives sample_tree (λ f. f) result
         (inside_at pad samples_read (format_word frame.entry.format) (body_of (frame_view frame.entry))) }
     ensures from { IfOk result (λ s. IsFrom frame.entry s) }
+    ensures unread { IfOk result (λ s. IsUnreadOther s) }
 {
     Ok(Sample::FlowX(FlowSampleX::read(frame, pad, &RecordKind::Flow)?))
 }
@@ -102,6 +107,7 @@ fn read_expanded_counters<'a>(frame: Frame<'a>, pad: Pad) -> Result<Sample<'a>, 
     ensures exact { Gives sample_tree (λ f. f) result
         (inside_at pad samples_read (format_word frame.entry.format) (body_of (frame_view frame.entry))) }
     ensures from { IfOk result (λ s. IsFrom frame.entry s) }
+    ensures unread { IfOk result (λ s. IsUnreadOther s) }
 {
     Ok(Sample::CountersX(CountersSampleX::read(frame, pad, &RecordKind::Counters)?))
 }

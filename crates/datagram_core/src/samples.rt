@@ -3,6 +3,7 @@ ghost use Rattle.data_format.specs.Trees.{AllPass};
 ghost use Rattle.data_format.specs.Views.{FrameView};
 ghost use Rattle.datagram_core.specs.Samples.{IsSampleOf};
 ghost use Rattle.datagram_core.specs.Tables.{samples_read};
+ghost use Rattle.datagram_core.specs.Written.{IsUnreadOther};
 
 use crate::Sample;
 use data_format::Frames;
@@ -57,6 +58,7 @@ impl<'a> Samples<'a> {
     pub fn next(&mut self) -> Option<Sample<'a>>
         ensures none { IfNone result ((self.old ≡ []) × (self.new ≡ [])) }
         ensures some { IfSome result (λ s. (f : FrameView) × (self.old ≡ f ∷ self.new) × IsSampleOf f s) }
+        ensures unread { IfSome result (λ s. IsUnreadOther s) }
     {
         let frame = self.frames.next()?;
         match Sample::read(frame, Pad::Any) {

@@ -3,8 +3,10 @@ ghost use Rattle.wire_spec.specs.Bytes.{AreBytes};
 ghost use Rattle.wire_spec.specs.Fails.{Fails};
 ghost use Rattle.wire_spec.specs.Reading.{members_at};
 ghost use Rattle.wire_spec.specs.Shapes.{Table};
+ghost use Rattle.wire_spec.specs.Spelling.{spell_all};
 ghost use Rattle.wire_spec.specs.Whole.{SpellsFront};
 ghost use Rattle.xdr_words.specs.Readers.{Reads, Gives, remaining};
+ghost use Rattle.xdr_words.specs.Written.{Puts};
 ghost use Rattle.data_format.specs.declared.heads.Form.TheVariants.{Compact};
 ghost use Rattle.data_format.specs.Ranges.{StandIn, EndsWith};
 ghost use Rattle.data_format.specs.Samples.{IsCountersHead, counters_members, counters_trees, counters_over, counters_tree, counters_parts, sample_reading};
@@ -14,7 +16,7 @@ ghost use Rattle.data_format.specs.Views.{body_of, frame_view};
 use data_format::{BodyCheck, CountersHead, Fault, Frame, Frames, SourceId};
 use std::marker::Model;
 use wire_spec::Pad;
-use xdr_words::Cursor;
+use xdr_words::{Cursor, Item, Out, OutFull, write_run};
 
 /// A counters sample in the compact form, format 2 of the standard (sFlow Version 5, section 5): its head, the frames of
 /// its records, and the bytes behind them. Contracts see these three.
@@ -108,6 +110,17 @@ impl<'a> CountersSample<'a> {
         ensures { result.now ≡ self.now.tail }
     {
         self.tail
+    }
+
+    /// The head of a counters sample, without the count of its records, whole or not at all. `compact` of the source
+    /// answers a word.
+    pub fn write_head(head: &CountersHead, out: &mut Out<'_>) -> Result<(), OutFull>
+        requires { IsCountersHead Compact head.now }
+        ensures { Puts out.old out.new result (spell_all (counters_trees Compact head.now)) }
+    {
+        let source = head.source.compact().unwrap();
+        let items = [Item::Word(head.sequence), Item::Word(source)];
+        write_run(out, &items, &[])
     }
 }
 

@@ -3,8 +3,10 @@ ghost use Rattle.wire_spec.specs.Bytes.{AreBytes};
 ghost use Rattle.wire_spec.specs.Fails.{Fails};
 ghost use Rattle.wire_spec.specs.Reading.{members_at};
 ghost use Rattle.wire_spec.specs.Shapes.{Table};
+ghost use Rattle.wire_spec.specs.Spelling.{spell_all};
 ghost use Rattle.wire_spec.specs.Whole.{SpellsFront};
 ghost use Rattle.xdr_words.specs.Readers.{Reads, Gives, remaining};
+ghost use Rattle.xdr_words.specs.Written.{Puts};
 ghost use Rattle.data_format.specs.declared.heads.Form.TheVariants.{Compact};
 ghost use Rattle.data_format.specs.Ranges.{StandIn, EndsWith};
 ghost use Rattle.data_format.specs.Samples.{IsFlowHead, flow_members, flow_trees, flow_over, flow_tree, flow_parts, sample_reading};
@@ -14,7 +16,7 @@ ghost use Rattle.data_format.specs.Views.{body_of, frame_view};
 use data_format::{BodyCheck, Fault, FlowHead, Frame, Frames, Port, SourceId};
 use std::marker::Model;
 use wire_spec::Pad;
-use xdr_words::Cursor;
+use xdr_words::{Cursor, Item, Out, OutFull, write_run};
 
 /// A flow sample in the compact form, format 1 of the standard (sFlow Version 5, section 5): its head, the frames of
 /// its records, and the bytes behind them. Contracts see these three.
@@ -108,6 +110,27 @@ impl<'a> FlowSample<'a> {
         ensures { result.now ≡ self.now.tail }
     {
         self.tail
+    }
+
+    /// The head of a flow sample, without the count of its records, whole or not at all. `compact` of the source and
+    /// of both ports answers a word.
+    pub fn write_head(head: &FlowHead, out: &mut Out<'_>) -> Result<(), OutFull>
+        requires { IsFlowHead Compact head.now }
+        ensures { Puts out.old out.new result (spell_all (flow_trees Compact head.now)) }
+    {
+        let source = head.source.compact().unwrap();
+        let input = head.input.compact().unwrap();
+        let output = head.output.compact().unwrap();
+        let items = [
+            Item::Word(head.sequence),
+            Item::Word(source),
+            Item::Word(head.rate),
+            Item::Word(head.pool),
+            Item::Word(head.drops),
+            Item::Word(input),
+            Item::Word(output),
+        ];
+        write_run(out, &items, &[])
     }
 }
 

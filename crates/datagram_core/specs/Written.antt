@@ -1,0 +1,188 @@
+-- A datagram that is being written: what stands in it, and a sample that is begun.
+use Rattle.std.specs.Prelude.{◌≡◌, ◌≢◌, ℕ, ◌+◌, ◌≤◌, List, ◌++◌, length, take, drop}
+use Rattle.std.specs.Int.{w32, to_be_bytes}
+use Rattle.wire_spec.specs.Shapes.{Tree, known, Trees, none, ◌&◌}
+use Rattle.wire_spec.specs.Members.{with_last_tree}
+use Rattle.wire_spec.specs.Spelling.{spell_all}
+use Rattle.data_format.specs.declared.heads.Form.{Form}
+use Rattle.data_format.specs.declared.heads.Form.TheVariants.{Compact, Expanded}
+use Rattle.data_format.specs.declared.heads.FlowHead.{FlowHead}
+use Rattle.data_format.specs.declared.heads.CountersHead.{CountersHead}
+use Rattle.data_format.specs.Samples.{IsFlowHead, IsCountersHead, flow_trees, counters_trees}
+use Rattle.data_format.specs.Trees.{AllPass}
+use Rattle.data_format.specs.Views.{IsFormat, format_word}
+use Rattle.data_format.specs.Records.{record_bytes}
+use Rattle.rec_headers.specs.Contents as headers
+use Rattle.rec_extended.specs.Contents as switches
+use Rattle.rec_extended.specs.RouteContents as routes
+use Rattle.rec_extended.specs.RouteContents.{path_of, communities_of}
+use Rattle.rec_counters.specs.Contents as counters
+use Rattle.as_paths.specs.WordLists.{word_trees}
+use Rattle.as_paths.specs.Paths.{segment_trees}
+use Rattle.datagram_core.specs.Tables.{flow_records_read, counter_records_read}
+use Rattle.datagram_core.specs.declared.records.Record.{Record}
+use Rattle.datagram_core.specs.declared.records.Record.TheVariants.{
+  RawHeader,
+  Ethernet,
+  Ipv4,
+  Ipv6,
+  Switch,
+  Router,
+  Gateway,
+  IfCounters,
+  EthernetCounters,
+  VlanCounters,
+  Other,
+}
+use Rattle.datagram_core.specs.declared.records.RecordKind.{RecordKind}
+use Rattle.datagram_core.specs.declared.records.RecordKind.TheVariants as kinds
+use Rattle.datagram_core.specs.declared.sample.Sample.{Sample}
+use Rattle.datagram_core.specs.declared.sample.Sample.TheVariants as samples
+
+-- some values and one more
+abbrev pub and_then : Trees → Tree → Trees
+and_then ts t = with_last_tree ts t
+
+-- some values and then others
+abbrev pub joined : Trees → Trees → Trees
+joined none us = us
+joined (t & ts) us = t & joined ts us
+
+-- a sample that is begun: the kind of its records, its format, the values of its head, and its records so far
+pub record Begun : Type 0 where
+  pub kind : RecordKind
+  pub format : ℕ
+  pub head : Trees
+  pub records : Trees
+
+abbrev pub flow_format : Form → ℕ
+flow_format Compact = 1
+flow_format Expanded = 3
+
+abbrev pub counters_format : Form → ℕ
+counters_format Compact = 2
+counters_format Expanded = 4
+
+-- samples of these heads, without records
+abbrev pub begun_flow : Form → FlowHead → Begun
+begun_flow form h = record { kind = kinds.Flow; format = flow_format form; head = flow_trees form h; records = none }
+
+abbrev pub begun_counters : Form → CountersHead → Begun
+begun_counters form h =
+    record { kind = kinds.Counters; format = counters_format form; head = counters_trees form h; records = none }
+
+abbrev pub with_record : Begun → Tree → Begun
+with_record s t = record { kind = s.kind; format = s.format; head = s.head; records = and_then s.records t }
+
+-- these records in place of its own
+abbrev pub filled : Begun → Trees → Begun
+filled s records = record { kind = s.kind; format = s.format; head = s.head; records = records }
+
+-- its bytes so far: the length of the body and the number of records are still 0
+abbrev pub begun_bytes : Begun → List ℕ
+begun_bytes s =
+    (to_be_bytes w32 s.format ++ to_be_bytes w32 0) ++ (spell_all s.head ++ (to_be_bytes w32 0 ++ spell_all s.records))
+
+-- its value, with the bytes behind the records
+abbrev pub closed_sample : Begun → List ℕ → Tree
+closed_sample s tail = known s.format (Tree.structure (with_last_tree s.head (Tree.array s.records))) tail
+
+-- ---- bytes in a room
+
+-- a piece stands behind the first `len` bytes, up to n
+pub record Extends (old new : List ℕ) (len n : ℕ) (piece : List ℕ) : Type 0 where
+  pub size : length new ≡ length old
+  pub ends : n ≡ len + length piece
+  pub whole : take n new ≡ take len old ++ piece
+
+-- a piece in place of as many bytes
+abbrev pub patch : ℕ → List ℕ → List ℕ → List ℕ
+patch place piece x = take place x ++ piece ++ drop (place + length piece) x
+
+-- ---- records that are to be written
+
+-- the format is none of those that are read by their fields
+abbrev pub IsUnread : RecordKind → ℕ → Type 0
+IsUnread kinds.Flow k = (k ≢ 1) × (k ≢ 2) × (k ≢ 3) × (k ≢ 4) × (k ≢ 1001) × (k ≢ 1002) × (k ≢ 1003)
+IsUnread kinds.Counters k = (k ≢ 1) × (k ≢ 2) × (k ≢ 5)
+IsUnread kinds.Unknown k = Unit {0}
+
+-- the format is none of the samples that are read by their fields
+abbrev pub IsUnreadSample : ℕ → Type 0
+IsUnreadSample k = (k ≢ 1) × (k ≢ 2) × (k ≢ 3) × (k ≢ 4)
+
+-- a sample that is kept as its frame has such a format
+abbrev pub IsUnreadOther : Sample → Type 0
+IsUnreadOther (samples.Other frame) = IsUnreadSample (format_word frame.format)
+IsUnreadOther _ = Unit {0}
+
+-- a sample as it is given: its head has its form, its records are sound, and what is kept as a frame isn't read
+abbrev pub IsWritten : Sample → Type 0
+IsWritten (samples.Flow s) = IsFlowHead Compact s.head × AllPass flow_records_read s.frames
+IsWritten (samples.Counters s) = IsCountersHead Compact s.head × AllPass counter_records_read s.frames
+IsWritten (samples.FlowX s) = AllPass flow_records_read s.frames
+IsWritten (samples.CountersX s) = AllPass counter_records_read s.frames
+IsWritten (samples.Other frame) = IsFormat frame.format × IsUnreadSample (format_word frame.format)
+
+-- samples of this kind have the record
+abbrev pub HasKind : RecordKind → Record → Type 0
+HasKind kinds.Flow (RawHeader r) = Unit {0}
+HasKind kinds.Flow (Ethernet r) = Unit {0}
+HasKind kinds.Flow (Ipv4 r) = Unit {0}
+HasKind kinds.Flow (Ipv6 r) = Unit {0}
+HasKind kinds.Flow (Switch r) = Unit {0}
+HasKind kinds.Flow (Router r) = Unit {0}
+HasKind kinds.Flow (Gateway r) = Unit {0}
+HasKind kinds.Counters (IfCounters r) = Unit {0}
+HasKind kinds.Counters (EthernetCounters r) = Unit {0}
+HasKind kinds.Counters (VlanCounters r) = Unit {0}
+HasKind kind (Other frame) = IsFormat frame.format × IsUnread kind (format_word frame.format)
+HasKind kind _ = ⊥
+
+-- each of its slices has at most 65,535 bytes
+abbrev pub SlicesFit : Record → Type 0
+SlicesFit (RawHeader r) = (length r.header.now ≤ 65535) × (length r.tail.now ≤ 65535)
+SlicesFit (Ethernet r) = length r.tail.now ≤ 65535
+SlicesFit (Ipv4 r) = length r.tail.now ≤ 65535
+SlicesFit (Ipv6 r) = length r.tail.now ≤ 65535
+SlicesFit (Switch r) = length r.tail.now ≤ 65535
+SlicesFit (Router r) = length r.tail.now ≤ 65535
+SlicesFit (Gateway r) = (length (spell_all (segment_trees (path_of r))) ≤ 65535)
+    × (length (spell_all (word_trees (communities_of r))) ≤ 65535) × (length r.tail.now ≤ 65535)
+SlicesFit (IfCounters r) = length r.tail.now ≤ 65535
+SlicesFit (EthernetCounters r) = length r.tail.now ≤ 65535
+SlicesFit (VlanCounters r) = length r.tail.now ≤ 65535
+SlicesFit (Other frame) = length frame.body.now ≤ 65535
+
+-- the format of a record that isn't read is that of a word
+abbrev pub FormatFits : Record → Type 0
+FormatFits (Other frame) = IsFormat frame.format
+FormatFits _ = Unit {0}
+
+-- the word of its format
+abbrev pub record_format : Record → ℕ
+record_format (RawHeader r) = 1
+record_format (Ethernet r) = 2
+record_format (Ipv4 r) = 3
+record_format (Ipv6 r) = 4
+record_format (Switch r) = 1001
+record_format (Router r) = 1002
+record_format (Gateway r) = 1003
+record_format (IfCounters r) = 1
+record_format (EthernetCounters r) = 2
+record_format (VlanCounters r) = 5
+record_format (Other frame) = format_word frame.format
+
+-- the bytes of its body
+abbrev pub record_body : Record → List ℕ
+record_body (RawHeader r) = record_bytes (headers.raw_content r)
+record_body (Ethernet r) = record_bytes (headers.ethernet_content r)
+record_body (Ipv4 r) = record_bytes (headers.ipv4_content r)
+record_body (Ipv6 r) = record_bytes (headers.ipv6_content r)
+record_body (Switch r) = record_bytes (switches.switch_content r)
+record_body (Router r) = record_bytes (routes.router_content r)
+record_body (Gateway r) = record_bytes (routes.gateway_content r)
+record_body (IfCounters r) = record_bytes (counters.interface_content r)
+record_body (EthernetCounters r) = record_bytes (counters.ethernet_content r)
+record_body (VlanCounters r) = record_bytes (counters.vlan_content r)
+record_body (Other frame) = frame.body.now
