@@ -107,169 +107,158 @@ fn try_stream(
     try_entries(rt, alloc, words, &entries, &report)
 }
 
+// Datagrams of one stream, the words, and what is shown of the stream.
+#[derive(Drop)]
+struct Row<'a> {
+    words: &'a [&'a str],
+    sent: &'a [Sent],
+    figures: &'a str,
+}
+
+fn try_rows(rt: &(impl Abort + RandomSource), alloc: Global, rows: &[Row<'_>]) -> Result<(), Fail> {
+    for row in rows {
+        try_stream(rt, alloc, row.words, row.sent, row.figures)?;
+    }
+    Ok(())
+}
+
 #[test]
 fn numbers_wrap_and_come_in_any_order(rt: HostRuntime) -> Result<(), Fail> {
-    let alloc = rt.alloc();
-    try_stream(
-        &rt,
-        alloc,
-        &["replay"],
-        &[numbered(u32::MAX), numbered(0), numbered(1)],
-        "boots 1 issued 3 received 3 pending 0 lost 0 repeated 0 late 0 stale 0",
-    )?;
-    try_stream(
-        &rt,
-        alloc,
-        &["replay"],
-        &[numbered(5), numbered(7)],
-        "boots 1 issued 3 received 2 pending 1 lost 0 repeated 0 late 0 stale 0",
-    )?;
-    try_stream(
-        &rt,
-        alloc,
-        &["replay"],
-        &[numbered(5), numbered(7), numbered(6)],
-        "boots 1 issued 3 received 3 pending 0 lost 0 repeated 0 late 0 stale 0",
-    )?;
-    try_stream(
-        &rt,
-        alloc,
-        &["replay"],
-        &[numbered(5), numbered(3)],
-        "boots 1 issued 3 received 2 pending 1 lost 0 repeated 0 late 0 stale 0",
-    )
+    let rows = [
+        Row {
+            words: &["replay"],
+            sent: &[numbered(u32::MAX), numbered(0), numbered(1)],
+            figures: "boots 1 issued 3 received 3 pending 0 lost 0 repeated 0 late 0 stale 0",
+        },
+        Row {
+            words: &["replay"],
+            sent: &[numbered(5), numbered(7)],
+            figures: "boots 1 issued 3 received 2 pending 1 lost 0 repeated 0 late 0 stale 0",
+        },
+        Row {
+            words: &["replay"],
+            sent: &[numbered(5), numbered(7), numbered(6)],
+            figures: "boots 1 issued 3 received 3 pending 0 lost 0 repeated 0 late 0 stale 0",
+        },
+        Row {
+            words: &["replay"],
+            sent: &[numbered(5), numbered(3)],
+            figures: "boots 1 issued 3 received 2 pending 1 lost 0 repeated 0 late 0 stale 0",
+        },
+    ];
+    try_rows(&rt, rt.alloc(), &rows)
 }
 
 #[test]
 fn numbers_are_late_behind_the_window(rt: HostRuntime) -> Result<(), Fail> {
-    let alloc = rt.alloc();
-    try_stream(
-        &rt,
-        alloc,
-        &["replay"],
-        &[numbered(100), numbered(37)],
-        "boots 1 issued 64 received 2 pending 62 lost 0 repeated 0 late 0 stale 0",
-    )?;
-    try_stream(
-        &rt,
-        alloc,
-        &["replay"],
-        &[numbered(100), numbered(36)],
-        "boots 1 issued 1 received 1 pending 0 lost 0 repeated 0 late 1 stale 0",
-    )?;
-    try_stream(
-        &rt,
-        alloc,
-        &["replay", "--datagram-width=65"],
-        &[numbered(100), numbered(36)],
-        "boots 1 issued 65 received 2 pending 63 lost 0 repeated 0 late 0 stale 0",
-    )?;
-    try_stream(
-        &rt,
-        alloc,
-        &["replay"],
-        &[numbered(10), numbered(200), numbered(150)],
-        "boots 1 issued 191 received 3 pending 62 lost 126 repeated 0 late 0 stale 0",
-    )?;
-    try_stream(
-        &rt,
-        alloc,
-        &["replay"],
-        &[numbered(0), numbered(2_147_483_648)],
-        "boots 1 issued 1 received 1 pending 0 lost 0 repeated 0 late 1 stale 0",
-    )?;
-    try_stream(
-        &rt,
-        alloc,
-        &["replay"],
-        &[numbered(0), numbered(2_147_483_647)],
-        "boots 1 issued 2147483648 received 2 pending 63 lost 2147483583 repeated 0 late 0 stale 0",
-    )
+    let rows = [
+        Row {
+            words: &["replay"],
+            sent: &[numbered(100), numbered(37)],
+            figures: "boots 1 issued 64 received 2 pending 62 lost 0 repeated 0 late 0 stale 0",
+        },
+        Row {
+            words: &["replay"],
+            sent: &[numbered(100), numbered(36)],
+            figures: "boots 1 issued 1 received 1 pending 0 lost 0 repeated 0 late 1 stale 0",
+        },
+        Row {
+            words: &["replay", "--datagram-width=65"],
+            sent: &[numbered(100), numbered(36)],
+            figures: "boots 1 issued 65 received 2 pending 63 lost 0 repeated 0 late 0 stale 0",
+        },
+        Row {
+            words: &["replay"],
+            sent: &[numbered(10), numbered(200), numbered(150)],
+            figures: "boots 1 issued 191 received 3 pending 62 lost 126 repeated 0 late 0 stale 0",
+        },
+        Row {
+            words: &["replay"],
+            sent: &[numbered(0), numbered(2_147_483_648)],
+            figures: "boots 1 issued 1 received 1 pending 0 lost 0 repeated 0 late 1 stale 0",
+        },
+        Row {
+            words: &["replay"],
+            sent: &[numbered(0), numbered(2_147_483_647)],
+            figures: "boots 1 issued 2147483648 received 2 pending 63 lost 2147483583 repeated 0 late 0 stale 0",
+        },
+    ];
+    try_rows(&rt, rt.alloc(), &rows)
 }
 
 #[test]
 fn restarts_begin_a_boot(rt: HostRuntime) -> Result<(), Fail> {
-    let alloc = rt.alloc();
-    let before = [
-        at(100_000, 90_000, 5),
-        at(100_010, 90_010, 7),
-        at(130_000, 1_000, 1),
+    let rows = [
+        Row {
+            words: &["replay"],
+            sent: &[
+                at(100_000, 90_000, 5),
+                at(100_010, 90_010, 7),
+                at(130_000, 1_000, 1),
+            ],
+            figures: "boots 2 issued 4 received 3 pending 0 lost 1 repeated 0 late 0 stale 0",
+        },
+        Row {
+            words: &["replay"],
+            sent: &[
+                at(100_000, 90_000, 5),
+                at(100_010, 90_010, 7),
+                at(130_000, 1_000, 1),
+                at(131_000, 120_000, 8),
+            ],
+            figures: "boots 2 issued 4 received 3 pending 0 lost 1 repeated 0 late 0 stale 1",
+        },
+        Row {
+            words: &["replay"],
+            sent: &[
+                at(3_000_000_000, 2_592_000_000, 5),
+                at(3_000_060_000, 10_000, 1),
+            ],
+            figures: "boots 2 issued 2 received 2 pending 0 lost 0 repeated 0 late 0 stale 0",
+        },
+        Row {
+            words: &["replay"],
+            sent: &[
+                at(5_000_000_000, 4_294_967_000, 5),
+                at(5_000_000_396, 100, 6),
+            ],
+            figures: "boots 1 issued 2 received 2 pending 0 lost 0 repeated 0 late 0 stale 0",
+        },
     ];
-    try_stream(
-        &rt,
-        alloc,
-        &["replay"],
-        &before,
-        "boots 2 issued 4 received 3 pending 0 lost 1 repeated 0 late 0 stale 0",
-    )?;
-    try_stream(
-        &rt,
-        alloc,
-        &["replay"],
-        &[before[0], before[1], before[2], at(131_000, 120_000, 8)],
-        "boots 2 issued 4 received 3 pending 0 lost 1 repeated 0 late 0 stale 1",
-    )?;
-    try_stream(
-        &rt,
-        alloc,
-        &["replay"],
-        &[
-            at(3_000_000_000, 2_592_000_000, 5),
-            at(3_000_060_000, 10_000, 1),
-        ],
-        "boots 2 issued 2 received 2 pending 0 lost 0 repeated 0 late 0 stale 0",
-    )?;
-    try_stream(
-        &rt,
-        alloc,
-        &["replay"],
-        &[
-            at(5_000_000_000, 4_294_967_000, 5),
-            at(5_000_000_396, 100, 6),
-        ],
-        "boots 1 issued 2 received 2 pending 0 lost 0 repeated 0 late 0 stale 0",
-    )
+    try_rows(&rt, rt.alloc(), &rows)
 }
 
 #[test]
 fn a_boot_has_some_slack(rt: HostRuntime) -> Result<(), Fail> {
-    let alloc = rt.alloc();
     let first = at(100_000, 90_000, 5);
-    try_stream(
-        &rt,
-        alloc,
-        &["replay"],
-        &[first, at(105_000, 90_000, 6)],
-        "boots 1 issued 2 received 2 pending 0 lost 0 repeated 0 late 0 stale 0",
-    )?;
-    try_stream(
-        &rt,
-        alloc,
-        &["replay"],
-        &[first, at(105_001, 90_000, 6)],
-        "boots 2 issued 2 received 2 pending 0 lost 0 repeated 0 late 0 stale 0",
-    )?;
-    try_stream(
-        &rt,
-        alloc,
-        &["replay", "--boot-slack", "5001"],
-        &[first, at(105_001, 90_000, 6)],
-        "boots 1 issued 2 received 2 pending 0 lost 0 repeated 0 late 0 stale 0",
-    )?;
-    try_stream(
-        &rt,
-        alloc,
-        &["replay"],
-        &[first, at(95_000, 90_000, 6)],
-        "boots 1 issued 2 received 2 pending 0 lost 0 repeated 0 late 0 stale 0",
-    )?;
-    try_stream(
-        &rt,
-        alloc,
-        &["replay"],
-        &[first, at(94_999, 90_000, 6)],
-        "boots 1 issued 1 received 1 pending 0 lost 0 repeated 0 late 0 stale 1",
-    )
+    let rows = [
+        Row {
+            words: &["replay"],
+            sent: &[first, at(105_000, 90_000, 6)],
+            figures: "boots 1 issued 2 received 2 pending 0 lost 0 repeated 0 late 0 stale 0",
+        },
+        Row {
+            words: &["replay"],
+            sent: &[first, at(105_001, 90_000, 6)],
+            figures: "boots 2 issued 2 received 2 pending 0 lost 0 repeated 0 late 0 stale 0",
+        },
+        Row {
+            words: &["replay", "--boot-slack", "5001"],
+            sent: &[first, at(105_001, 90_000, 6)],
+            figures: "boots 1 issued 2 received 2 pending 0 lost 0 repeated 0 late 0 stale 0",
+        },
+        Row {
+            words: &["replay"],
+            sent: &[first, at(95_000, 90_000, 6)],
+            figures: "boots 1 issued 2 received 2 pending 0 lost 0 repeated 0 late 0 stale 0",
+        },
+        Row {
+            words: &["replay"],
+            sent: &[first, at(94_999, 90_000, 6)],
+            figures: "boots 1 issued 1 received 1 pending 0 lost 0 repeated 0 late 0 stale 1",
+        },
+    ];
+    try_rows(&rt, rt.alloc(), &rows)
 }
 
 #[test]

@@ -4,6 +4,9 @@ pub mod Ends
 pub mod Collecting
 pub mod WriterRuns
 pub mod CheckRuns
+pub mod Canonical
+pub mod CanonRuns
+pub mod CanonLaws
 pub mod ReplayRuns
 pub mod OneEnding
 pub mod Completed

@@ -8,6 +8,7 @@ ghost use Rattle.command_words.specs.declared.command.Command.{Command};
 ghost use Rattle.sflow_tool.specs.declared.status.Status.{Status as Ending};
 
 use crate::Status;
+use crate::canon::canon;
 use crate::check::check;
 use crate::replay::replay;
 use crate::show::show;
@@ -23,6 +24,8 @@ use std::alloc::Global;
 /// hashes of the collector's tables begin with, on which nothing that is written depends.
 /// `show` reads a capture and writes the lines of each entry. `check` reads a capture and writes a line for each entry
 /// that is no datagram, and then how many there are; `--zero` asks for zero padding.
+/// `canon` reads a capture and writes one with the same arrivals, each datagram with zero padding and each other entry
+/// as it is. Where the capture breaks off, so does what `canon` writes; it writes nothing where it was given no entry.
 /// All memory is taken before the first byte is read or written.
 pub fn run<S: Source, K: Sink>(
     alloc: Global,
@@ -52,6 +55,7 @@ pub fn run<S: Source, K: Sink>(
         Ok(Asked::Replay { limits }) => replay(alloc, limits, seeds, source, sink),
         Ok(Asked::Show) => show(alloc, source, sink),
         Ok(Asked::Check { pad }) => check(alloc, pad, source, sink),
+        Ok(Asked::Canon) => canon(alloc, source, sink),
         Err(WordsRefusal::Usage) => Status::Usage,
         Err(WordsRefusal::Memory) => Status::Memory,
     }
