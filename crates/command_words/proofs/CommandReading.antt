@@ -17,24 +17,31 @@ pub rules_fine : (command : CommandName) → are_rules (rules_of command) ≡ tr
 rules_fine name.Replay = refl
 rules_fine name.Show = refl
 rules_fine name.Check = refl
+rules_fine name.Canon = refl
 
 name_read : (command : CommandName) → name_of (word_of command) ≡ Some command
 name_read name.Replay = refl
 name_read name.Show = refl
 name_read name.Check = refl
+name_read name.Canon = refl
 
 read_name : (word : Text) (command : CommandName) → name_of word ≡ Some command → word ≡ word_of command
 read_name word command e = replay (bytes_eq word (word_of name.Replay)) refl e
   where
+    canon : (b : Bool) → bytes_eq word (word_of name.Canon) ≡ b → (if b then Some name.Canon else None) ≡ Some command
+        → word ≡ word_of command
+    canon true is e = (bytes_eq-Decides word (word_of name.Canon)).0 is ∙ ap word_of (same_Some _ _ e)
+    canon false is e = cc
+
     check : (b : Bool) → bytes_eq word (word_of name.Check) ≡ b
-        → (if b then Some name.Check else None) ≡ Some command
+        → (if b then Some name.Check else (if bytes_eq word (word_of name.Canon) then Some name.Canon else None)) ≡ Some command
         → word ≡ word_of command
     check true is e = (bytes_eq-Decides word (word_of name.Check)).0 is ∙ ap word_of (same_Some _ _ e)
-    check false is e = cc
+    check false is e = canon (bytes_eq word (word_of name.Canon)) refl e
 
     show : (b : Bool) → bytes_eq word (word_of name.Show) ≡ b
         → (if b then Some name.Show else (if bytes_eq word (word_of name.Check) then Some name.Check
-        else None)) ≡ Some command
+        else (if bytes_eq word (word_of name.Canon) then Some name.Canon else None))) ≡ Some command
         → word ≡ word_of command
     show true is e = (bytes_eq-Decides word (word_of name.Show)).0 is ∙ ap word_of (same_Some _ _ e)
     show false is e = check (bytes_eq word (word_of name.Check)) refl e
@@ -42,7 +49,7 @@ read_name word command e = replay (bytes_eq word (word_of name.Replay)) refl e
     replay : (b : Bool) → bytes_eq word (word_of name.Replay) ≡ b
         → (if b then Some name.Replay else (if bytes_eq word (word_of name.Show) then Some name.Show
         else (if bytes_eq word (word_of name.Check) then Some name.Check
-        else None))) ≡ Some command
+        else (if bytes_eq word (word_of name.Canon) then Some name.Canon else None)))) ≡ Some command
         → word ≡ word_of command
     replay true is e = (bytes_eq-Decides word (word_of name.Replay)).0 is ∙ ap word_of (same_Some _ _ e)
     replay false is e = show (bytes_eq word (word_of name.Show)) refl e

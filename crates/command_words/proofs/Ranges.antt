@@ -49,6 +49,7 @@ with_within name.Replay pieces given e = go (limits_of pieces) refl e
         asked_within (texts_by (λ name. text_of name pieces)) given (is ∙ ap (λ l. Some l) same)
 with_within name.Show pieces given e = cc
 with_within name.Check pieces given e = cc
+with_within name.Canon pieces given e = cc
 
 named_within : (words : List Text) (command : CommandName) (given : Limits)
     → command_named words command ≡ Some (Replay given)

@@ -7,7 +7,7 @@ use Rattle.command_words.specs.declared.arguments.Form.TheVariants.{Flag, Option
 use Rattle.command_words.specs.declared.arguments.CommandName.{CommandName}
 use Rattle.command_words.specs.declared.arguments.CommandName.TheVariants as name
 use Rattle.command_words.specs.declared.command.Command.{Command}
-use Rattle.command_words.specs.declared.command.Command.TheVariants.{Replay, Show, Check}
+use Rattle.command_words.specs.declared.command.Command.TheVariants.{Replay, Show, Check, Canon}
 use Rattle.command_words.specs.Rules.{Text, Rule}
 use Rattle.collector_views.specs.declared.limits.Limits.{Limits}
 use Rattle.command_words.specs.Pieces.{Piece, AreLawful, count_of, spelling, text_of}
@@ -19,12 +19,14 @@ abbrev pub word_of : CommandName → Text
 word_of name.Replay = codes "replay"
 word_of name.Show = codes "show"
 word_of name.Check = codes "check"
+word_of name.Canon = codes "canon"
 
 abbrev pub name_of : Text → Option CommandName
 name_of word =
     if bytes_eq word (word_of name.Replay) then Some name.Replay
     else (if bytes_eq word (word_of name.Show) then Some name.Show
-    else (if bytes_eq word (word_of name.Check) then Some name.Check else None))
+    else (if bytes_eq word (word_of name.Check) then Some name.Check
+    else (if bytes_eq word (word_of name.Canon) then Some name.Canon else None)))
 
 -- a command's options and flags
 abbrev pub rules_of : CommandName → List Rule
@@ -37,6 +39,7 @@ rules_of name.Replay =
     ∷ []
 rules_of name.Show = []
 rules_of name.Check = record { name = codes "zero"; form = Flag } ∷ []
+rules_of name.Canon = []
 
 -- the padding is zero where the flag stands
 abbrev pub pad_of : List Piece → Pad
@@ -51,6 +54,7 @@ abbrev pub command_with : CommandName → List Piece → Option Command
 command_with name.Replay pieces = option_map Replay (limits_of pieces)
 command_with name.Show pieces = Some Show
 command_with name.Check pieces = Some (Check (pad_of pieces))
+command_with name.Canon pieces = Some Canon
 
 -- the words are a command's name and lawful pieces, which give the command its values
 pub record Asks (words : List Text) (pieces : List Piece) (command : Command) : Type 0 where

@@ -27,6 +27,7 @@ pub enum CommandName {
     Replay,
     Show,
     Check,
+    Canon,
 }
 
 static NONE: [Argument; 0] = [];
@@ -69,6 +70,7 @@ impl CommandName {
             "replay" => Some(CommandName::Replay),
             "show" => Some(CommandName::Show),
             "check" => Some(CommandName::Check),
+            "canon" => Some(CommandName::Canon),
             _ => None,
         }
     }
@@ -80,6 +82,7 @@ impl CommandName {
             CommandName::Replay => "replay",
             CommandName::Show => "show",
             CommandName::Check => "check",
+            CommandName::Canon => "canon",
         }
     }
 
@@ -90,7 +93,7 @@ impl CommandName {
         match self {
             CommandName::Replay => &LIMITS,
             CommandName::Check => &CHECK,
-            CommandName::Show => &NONE,
+            CommandName::Show | CommandName::Canon => &NONE,
         }
     }
 }

@@ -23,6 +23,8 @@ pub enum Command {
     Show,
     /// Reads a capture and names its faulty entries, under a reading of padding.
     Check { pad: Pad },
+    /// Reads a capture and writes it anew, each datagram with zero padding.
+    Canon,
 }
 
 /// Why there is no command.
@@ -64,7 +66,7 @@ fn asks(name: CommandName, words: &[String]) -> bool
     are_lawful(arguments, words)
         && match name {
             CommandName::Replay => LimitTexts::in_words(arguments, words).limits().is_some(),
-            CommandName::Show | CommandName::Check => true,
+            CommandName::Show | CommandName::Check | CommandName::Canon => true,
         }
 }
 
@@ -82,6 +84,7 @@ fn command_in(name: CommandName, matches: &ArgMatches) -> Option<Command>
         CommandName::Check => Some(Command::Check {
             pad: pad_in(matches),
         }),
+        CommandName::Canon => Some(Command::Canon),
     }
 }
 

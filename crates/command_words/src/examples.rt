@@ -20,6 +20,8 @@ pub fn words_of_commands()
     ensures empty_word { command_of ([] ∷ []) ≡ None }
     ensures upper_case { command_of (codes "Check" ∷ []) ≡ None }
     ensures flag_first { command_of (codes "--zero" ∷ codes "check" ∷ []) ≡ None }
+    ensures canon { command_of (codes "canon" ∷ []) ≡ Some Command.Canon }
+    ensures canon_more { command_of (codes "canon" ∷ codes "--zero" ∷ []) ≡ None }
     ensures more_words { command_of (codes "replay" ∷ codes "extra" ∷ []) ≡ None }
     ensures hyphens { command_of (codes "replay" ∷ codes "--" ∷ []) ≡ None }
     ensures other_flag { command_of (codes "replay" ∷ codes "--zero" ∷ []) ≡ None }

@@ -34,6 +34,8 @@ const ALL_LIMITS: Result<Command, WordsRefusal> = Ok(Command::Replay {
     },
 });
 
+const CANON: Result<Command, WordsRefusal> = Ok(Command::Canon);
+
 const SHOW: Result<Command, WordsRefusal> = Ok(Command::Show);
 
 const CHECK: Result<Command, WordsRefusal> = Ok(Command::Check { pad: Pad::Any });
@@ -43,7 +45,7 @@ const CHECK_ZERO: Result<Command, WordsRefusal> = Ok(Command::Check { pad: Pad::
 // With ample memory each list of words has its reading.
 #[test]
 fn words_have_their_readings(rt: HostRuntime) -> Result<(), Fail> {
-    let cases: [(&[&str], Result<Command, WordsRefusal>); 35] = [
+    let cases: [(&[&str], Result<Command, WordsRefusal>); 37] = [
         (&[], USAGE),
         (&[""], USAGE),
         (&["replay"], REPLAY),
@@ -76,6 +78,8 @@ fn words_have_their_readings(rt: HostRuntime) -> Result<(), Fail> {
         (&["replay", "--streams", ""], USAGE),
         (&["replay", "--streams=2", "--streams=2"], USAGE),
         (&["replay", "--streams=4294967298"], USAGE),
+        (&["canon"], CANON),
+        (&["canon", "--zero"], USAGE),
         (&["show"], SHOW),
         (&["check"], CHECK),
         (&["check", "--zero"], CHECK_ZERO),

@@ -6,6 +6,9 @@ pub mod Distinct
 pub mod Counted
 pub mod WriterRuns
 pub mod CheckRuns
+pub mod Canonical
+pub mod CanonRuns
+pub mod CanonLaws
 pub mod ReplayRuns
 pub mod OneEnding
 pub mod Completed

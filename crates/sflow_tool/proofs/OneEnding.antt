@@ -13,7 +13,7 @@ use Rattle.wire_spec.proofs.CaptureWalks.{capture_bytes-push}
 use Rattle.std.proofs.lemmas.Bool.{cases_lt}
 use Rattle.sflow_io.specs.CaptureSteps.{FaultBehind, GoesOn}
 use Rattle.command_words.specs.declared.command.Command.{Command}
-use Rattle.command_words.specs.declared.command.Command.TheVariants.{Replay, Show, Check}
+use Rattle.command_words.specs.declared.command.Command.TheVariants.{Replay, Show, Check, Canon}
 use Rattle.sflow_tool.specs.declared.status.Status.{Status}
 use Rattle.sflow_tool.specs.declared.status.Status.TheVariants.{Done, Found, Usage, ReadFault, WriteFault, BadInput, Memory, LinkFault, Spent}
 use Rattle.sflow_tool.specs.Outputs.{Breaks as OutputBreaks, faulty, unbuilt, Decides, IsRead, IsUnbuilt, Takes, finds}
@@ -144,6 +144,7 @@ takes_front : (c : Command) (es more : List Entry) → Takes c (es ++ more) → 
 takes_front (Replay limits) es more takes = distinct_front es more takes
 takes_front Show es more takes = tt
 takes_front (Check pad) es more takes = tt
+takes_front Canon es more takes = tt
 
 no_longer : (c : Command) (es fs : List Entry) (r : List ℕ) (status : Status) (e : Entry) (more : List Entry)
     (mid : List ℕ) → fs ≡ es ++ e ∷ more → front_of r ≡ Holds e mid → Halts c es r status → Takes c fs

@@ -130,3 +130,17 @@ pub counted_none : (m t : Bool) (new old : ℕ) → m ≡ t → m ≡ false → 
 counted_none m t new old same false_is is =
     let more : new ≡ old + 0 = omega (arith, is) in
     more ∙ ap (λ b. old + cond b 1 0) (sym false_is ∙ same)
+
+-- ---- the object that puts the lines keeps them
+
+pub puts_by : (a b : Option (List ℕ)) (p q : List ℕ) (number : ℕ) (e : Entry) (line line' : ℕ → Entry → List ℕ)
+    → line' ≡ line → Puts a b p q (line' number e) → Puts a b p q (line number e)
+puts_by a b p q number e line line' same put = subst (λ (f : ℕ → Entry → List ℕ). Puts a b p q (f number e)) same put
+
+pub part_by : (a b : Option (List ℕ)) (p : List ℕ) (number : ℕ) (e : Entry) (line line' : ℕ → Entry → List ℕ)
+    → line' ≡ line → AppendsPrefix a b (p ++ line' number e) → AppendsPrefix a b (p ++ line number e)
+part_by a b p number e line line' same part =
+    subst (λ (f : ℕ → Entry → List ℕ). AppendsPrefix a b (p ++ f number e)) same part
+
+pub marked_by : (m : Bool) (e : Entry) (marks marks' : Entry → Bool) → marks' ≡ marks → m ≡ marks' e → m ≡ marks e
+marked_by m e marks marks' same is = is ∙ ap (λ (f : Entry → Bool). f e) same

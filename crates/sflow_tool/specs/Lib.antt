@@ -2,6 +2,7 @@ pub mod Items
 pub mod Lines
 pub mod Faults
 pub mod Checks
+pub mod Canons
 pub mod Walks
 pub mod Statuses
 pub mod Replays

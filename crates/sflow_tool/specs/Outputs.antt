@@ -6,12 +6,13 @@ use Rattle.wire_spec.specs.declared.input_kind.InputKind.{InputKind}
 use Rattle.wire_spec.specs.declared.input_kind.InputKind.TheVariants.{Unbuilt}
 use Rattle.sflow_io.specs.CaptureSteps.{IsAllOf, FaultBehind, GoesOn, BeginsWithEntries}
 use Rattle.command_words.specs.declared.command.Command.{Command}
-use Rattle.command_words.specs.declared.command.Command.TheVariants.{Replay, Show, Check}
+use Rattle.command_words.specs.declared.command.Command.TheVariants.{Replay, Show, Check, Canon}
 use Rattle.sflow_tool.specs.declared.status.Status.{Status}
 use Rattle.sflow_tool.specs.declared.status.Status.TheVariants.{Done, Found, ReadFault, BadInput, Spent}
 use Rattle.show_lines.specs.Shown.{entry_text}
 use Rattle.sflow_tool.specs.Lines.{lines_of}
 use Rattle.sflow_tool.specs.Checks.{check_lines, check_text, faulty_count}
+use Rattle.sflow_tool.specs.Canons.{canon_part, canon_text}
 use Rattle.sflow_tool.specs.Replays.{AreDistinct, items_of, report_of}
 
 -- the lines of these entries, one after the other
@@ -23,42 +24,49 @@ abbrev pub whole_text : Command → List Entry → List ℕ
 whole_text (Replay limits) entries = report_of (items_of entries)
 whole_text Show entries = shown_lines entries
 whole_text (Check pad) entries = check_text pad entries
+whole_text Canon entries = canon_text entries
 
 -- the text where reading ends before that
 abbrev pub part_text : Command → List Entry → List ℕ
 part_text (Replay limits) entries = []
 part_text Show entries = shown_lines entries
 part_text (Check pad) entries = check_lines pad entries
+part_text Canon entries = canon_part entries
 
 -- whether a run over all of these entries has found what it was to find
 abbrev pub finds : Command → List Entry → Bool
 finds (Replay limits) entries = false
 finds Show entries = false
 finds (Check pad) entries = nat_lt 0 (faulty_count pad entries)
+finds Canon entries = false
 
 -- the command is built for these entries
 abbrev pub Takes : Command → List Entry → Type 0
 Takes (Replay limits) entries = AreDistinct (items_of entries)
 Takes Show entries = Unit {0}
 Takes (Check pad) entries = Unit {0}
+Takes Canon entries = Unit {0}
 
 -- the command writes nothing before it has read all
 abbrev pub WritesAtTheEnd : Command → Type 0
 WritesAtTheEnd (Replay limits) = Unit {0}
 WritesAtTheEnd Show = ⊥
 WritesAtTheEnd (Check pad) = ⊥
+WritesAtTheEnd Canon = ⊥
 
 -- the command takes all memory before it reads or writes a byte
 abbrev pub TakesMemoryFirst : Command → Type 0
 TakesMemoryFirst (Replay limits) = ⊥
 TakesMemoryFirst Show = Unit {0}
 TakesMemoryFirst (Check pad) = Unit {0}
+TakesMemoryFirst Canon = Unit {0}
 
 -- the command may find something
 abbrev pub MayFind : Command → Type 0
 MayFind (Replay limits) = ⊥
 MayFind Show = ⊥
 MayFind (Check pad) = Unit {0}
+MayFind Canon = ⊥
 
 -- ---- the same for all commands
 

@@ -32,7 +32,7 @@ impl EntryLines for FaultyEntries {
     ghost marks = { λ self entry. is_faulty self.pad entry };
 
     fn put<K: Sink>(
-        &self,
+        &mut self,
         page: &mut Page,
         sink: &mut K,
         number: u64,
@@ -83,8 +83,8 @@ fn check_in<S: Source, K: Sink>(
         (S.faults source.old) (S.faults source.new) (K.faults sink.old) (K.faults sink.new) result }
 {
     let mut page = Page::new();
-    let lines = FaultyEntries { pad };
-    match put_entries(reader, source, room, &lines, &mut page, sink) {
+    let mut lines = FaultyEntries { pad };
+    match put_entries(reader, source, room, &mut lines, &mut page, sink) {
         Ok(counts) => finish(&mut page, sink, &counts),
         Err(Stop::Read(refusal)) => flush(&mut page, sink, status_of(refusal)),
         Err(Stop::Write) => Status::WriteFault,

@@ -25,7 +25,7 @@ impl EntryLines for ShownEntries {
     ghost marks = { λ _ _. false };
 
     fn put<K: Sink>(
-        &self,
+        &mut self,
         page: &mut Page,
         sink: &mut K,
         number: u64,
@@ -64,7 +64,7 @@ fn show_in<S: Source, K: Sink>(
         (S.faults source.old) (S.faults source.new) (K.faults sink.old) (K.faults sink.new) result }
 {
     let mut page = Page::new();
-    match put_entries(reader, source, room, &ShownEntries, &mut page, sink) {
+    match put_entries(reader, source, room, &mut ShownEntries, &mut page, sink) {
         Ok(_) => flush(&mut page, sink, Status::Done),
         Err(Stop::Read(refusal)) => flush(&mut page, sink, status_of(refusal)),
         Err(Stop::Write) => Status::WriteFault,

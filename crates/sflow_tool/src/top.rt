@@ -8,6 +8,7 @@ ghost use Rattle.command_words.specs.declared.command.Command.{Command};
 ghost use Rattle.sflow_tool.specs.declared.status.Status.{Status as Ending};
 
 use crate::Status;
+use crate::canon::canon;
 use crate::check::check;
 use crate::replay::replay;
 use crate::show::show;
@@ -19,8 +20,10 @@ use std::alloc::Global;
 ///
 /// `replay` reads a capture and writes its report: a line for each stream, one for the first entry that is no
 /// datagram, and the line of totals. A stream may have one datagram; a further one is refused as unbuilt.
-/// `show` reads a capture and writes the lines of each entry. `check` reads a capture and writes a line for each entry that is no datagram, and then how many there are;
-/// `--zero` asks for zero padding.
+/// `show` reads a capture and writes the lines of each entry. `check` reads a capture and writes a line for each entry
+/// that is no datagram, and then how many there are; `--zero` asks for zero padding.
+/// `canon` reads a capture and writes one with the same arrivals, each datagram with zero padding and each other entry
+/// as it is. Where the capture breaks off, so does what `canon` writes; it writes nothing where it was given no entry.
 pub fn run<S: Source, K: Sink>(
     alloc: Global,
     words: &[String],
@@ -47,6 +50,7 @@ pub fn run<S: Source, K: Sink>(
         Ok(Asked::Replay { limits }) => replay(alloc, limits, source, sink),
         Ok(Asked::Show) => show(alloc, source, sink),
         Ok(Asked::Check { pad }) => check(alloc, pad, source, sink),
+        Ok(Asked::Canon) => canon(alloc, source, sink),
         Err(WordsRefusal::Usage) => Status::Usage,
         Err(WordsRefusal::Memory) => Status::Memory,
     }

@@ -1,4 +1,4 @@
-// Writing a line for each entry of a capture as it is read.
+// Writing a text for each entry of a capture as it is read.
 ghost use Rattle.std.specs.Prelude.{◌≡◌, ◌≢◌, ◌≤◌, [], ℕ, List, Bool, Some, IfOk, length};
 ghost use Rattle.std.specs.declared.result.Result.TheVariants.{Ok, Err};
 ghost use Rattle.std.specs.Io.KnownBytes.{IsAtEnd};
@@ -25,18 +25,21 @@ pub trait EntryLines {
     /// Whether the entry is one of those that are counted.
     ghost marks: { Self → Entry → Bool };
 
-    /// Puts the text for the entry, and answers whether it is counted.
+    /// Puts the text for the entry, and answers whether it is counted. An entry has at most 65,535 bytes.
     fn put<K: Sink>(
-        &self,
+        &mut self,
         page: &mut Page,
         sink: &mut K,
         number: u64,
         at: u64,
         bytes: &[u8],
     ) -> Result<bool, Failed>
+        requires short { length bytes.now ≤ 65535 }
         ensures prints { Prints (K.taken sink.old) (K.taken sink.new) page.old page.new result
-            (line self.now number (record { arrival = at; bytes = bytes.now })) }
-        ensures marked { IfOk result (λ m. m ≡ marks self.now (record { arrival = at; bytes = bytes.now })) }
+            (line self.old number (record { arrival = at; bytes = bytes.now })) }
+        ensures marked { IfOk result (λ m. m ≡ marks self.old (record { arrival = at; bytes = bytes.now })) }
+        ensures same_line { line self.new ≡ line self.old }
+        ensures same_marks { marks self.new ≡ marks self.old }
         ensures cause { HasCause (K.faults sink.old) (K.faults sink.new) result };
 }
 
@@ -56,19 +59,19 @@ pub enum Stop {
     Write,
 }
 
-/// Puts the lines of all entries of the capture, one after the other, each as soon as it is read.
+/// Puts the texts of all entries of the capture, one after the other, each as soon as it is read.
 pub(crate) fn put_entries<S: Source, K: Sink, L: EntryLines>(
     reader: &mut CaptureReader,
     source: &mut S,
     room: &mut [u8],
-    lines: &L,
+    lines: &mut L,
     page: &mut Page,
     sink: &mut K,
 ) -> Result<Counts, Stop>
     requires fresh { reader.old ≡ record { stage = Start; held = [] } }
     requires room { 65535 ≤ length room.old }
     ensures told { (input : List ℕ) → AreBytes input → S.left source.old ≡ Some input
-        → WalkEnds (L.line lines.now) (L.marks lines.now) input
+        → WalkEnds (L.line lines.old) (L.marks lines.old) input
         (record { taken = K.taken sink.old; taken' = K.taken sink.new; held = page.old; held' = page.new }) result }
     ensures at_end { ReadsToTheEnd result (S.left source.new) }
     ensures cause { HasWalkCause (S.faults source.old) (S.faults source.new) (K.faults sink.old) (K.faults sink.new) result }

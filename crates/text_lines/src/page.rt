@@ -66,8 +66,9 @@ impl Page {
         self.len = end;
     }
 
-    // Gathers bytes. Where they don't fit beside what the page holds, that is written first.
-    fn put<K: Sink>(&mut self, sink: &mut K, bytes: &[u8]) -> Result<(), Failed>
+    /// Gathers bytes. Where they don't fit beside what the page holds, that is written first, and then so are they if
+    /// they fill more than a page. `Failed` is the sink's own.
+    pub fn put<K: Sink>(&mut self, sink: &mut K, bytes: &[u8]) -> Result<(), Failed>
         ensures prints { Prints (K.taken sink.old) (K.taken sink.new) self.old self.new result bytes.now }
         ensures cause { HasCause (K.faults sink.old) (K.faults sink.new) result }
     {

@@ -1,6 +1,6 @@
 use Rattle.std.proofs.Common.{◌≡◌, Some, sym, ap, subst, ◌∙◌}
 use Rattle.command_words.specs.declared.command.Command.{Command}
-use Rattle.command_words.specs.declared.command.Command.TheVariants.{Replay, Show, Check}
+use Rattle.command_words.specs.declared.command.Command.TheVariants.{Replay, Show, Check, Canon}
 use Rattle.sflow_tool.specs.Outputs.{Decides}
 use Rattle.sflow_tool.proofs.Completed.{completed}
 use Rattle.sflow_tool.proofs.top.run.Goals as goal
@@ -30,4 +30,12 @@ returns-in-Ok-Check-clause-complete g c = λ command input ending words are told
     same_command command (Check c.in-Ok-Check.pad)
     (sym words ∙ c.in-Ok-Check.ensures.command ∙ ap (λ (d : Command). Some d) c.in-Ok-Check.field-0-is) in
     completed (Check c.in-Ok-Check.pad) input _ _ _ _ _ _ _ _ _ _ c.check.ensures are told
+    (subst (λ (d : Command). Decides d input ending) same decides) no_read no_write
+
+pub returns-in-Ok-Canon-clause-complete : goal.returns-in-Ok-Canon-clause-complete
+returns-in-Ok-Canon-clause-complete g c = λ command input ending words are told decides no_read no_write.
+    let same : command ≡ Canon =
+    same_command command Canon
+    (sym words ∙ c.in-Ok-Canon.ensures.command ∙ ap (λ (d : Command). Some d) c.in-Ok-Canon.field-0-is) in
+    completed Canon input _ _ _ _ _ _ _ _ _ _ c.canon.ensures are told
     (subst (λ (d : Command). Decides d input ending) same decides) no_read no_write

@@ -1,5 +1,5 @@
 use Rattle.std.proofs.Common.{◌+◌, ap, ◌∙◌, arith}
-use Rattle.sflow_tool.proofs.Walked.{one_more, not_written, counted_one, counted_none}
+use Rattle.sflow_tool.proofs.Walked.{marked_by, puts_by, part_by, one_more, not_written, counted_one, counted_none}
 use Rattle.sflow_tool.proofs.walk.put_entries.Goals as goal
 use Rattle.sflow_tool.proofs.walk.put_entries.Goals.{then-is_marked, else-is_marked}
 
@@ -10,11 +10,13 @@ loop-count-preserved g c =
     let leads = rw c.in-Ok-Entry.field-0-is at c.in-Ok-Entry.ensures.leads_on in
     record {
       told = λ input are told.
-          one_more _ _ input are _ _ _ _ _ _ _ _ _ _ _ _ _ (before.told input are told) given _ _ _ c.in-Ok.ensures.prints
+          one_more _ _ input are _ _ _ _ _ _ _ _ _ _ _ _ _ (before.told input are told) given _ _ _ (puts_by _ _ _ _ _ _ _ _ before.same_line c.in-Ok.ensures.prints)
           (elim c.if-is_marked.branch [
-            | then-is_marked w ↦ counted_one _ _ _ _ c.in-Ok.ensures.marked w.if-is_marked.true w.marked-is
-            | else-is_marked w ↦ counted_none _ _ _ _ c.in-Ok.ensures.marked w.if-is_marked.false w.marked-is
+            | then-is_marked w ↦ counted_one _ _ _ _ (marked_by _ _ _ _ before.same_marks c.in-Ok.ensures.marked) w.if-is_marked.true w.marked-is
+            | else-is_marked w ↦ counted_none _ _ _ _ (marked_by _ _ _ _ before.same_marks c.in-Ok.ensures.marked) w.if-is_marked.false w.marked-is
           ]);
+      same_line = c.in-Ok.ensures.same_line ∙ before.same_line;
+      same_marks = c.in-Ok.ensures.same_marks ∙ before.same_marks;
       going = leads.0;
       given = leads.1 ∙ ap (λ n. n + 1) before.given;
       few = omega (arith, leads.1, leads.2, before.given);
@@ -32,7 +34,7 @@ returns-in_default-clause-told g c = λ input are told.
     let before = c.loop-count.invariant in
     let given = rw c.in-Ok-Entry.field-0-is at c.in-Ok-Entry.ensures.given in
     let leads = rw c.in-Ok-Entry.field-0-is at c.in-Ok-Entry.ensures.leads_on in
-    let part = not_written _ _ input are _ _ _ _ _ _ _ _ _ _ _ _ _ (before.told input are told) given _ leads.0 c.in_default.ensures.prints in
+    let part = not_written _ _ input are _ _ _ _ _ _ _ _ _ _ _ _ _ (before.told input are told) given _ leads.0 (part_by _ _ _ _ _ _ _ before.same_line c.in_default.ensures.prints) in
     record { entries = part.0; begins = part.1; put = part.2 }
 
 pub returns-in-Ok-End-clause-told : goal.returns-in-Ok-End-clause-told

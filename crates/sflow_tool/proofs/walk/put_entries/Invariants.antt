@@ -8,9 +8,11 @@ use Rattle.sflow_tool.proofs.walk.put_entries.Given as goal
 abbrev pub invariant-loop-count : goal.invariant-loop-count
 invariant-loop-count g l = record {
   told : (input : List ℕ) → AreBytes input → g.S.Source.left l.initial.source ≡ Some input
-      → SoFar (g.L.EntryLines.line l.lines) (g.L.EntryLines.marks l.lines) input
+      → SoFar (g.L.EntryLines.line l.initial.lines) (g.L.EntryLines.marks l.initial.lines) input
       (record { taken = g.K.Sink.taken l.initial.sink; taken' = g.K.Sink.taken l.sink; held = l.initial.page; held' = l.page })
       l.reader (g.S.Source.left l.source) l.count l.marked;
+  same_line : g.L.EntryLines.line l.lines ≡ g.L.EntryLines.line l.initial.lines;
+  same_marks : g.L.EntryLines.marks l.lines ≡ g.L.EntryLines.marks l.initial.lines;
   going : ¬ (HasEnded l.reader.stage);
   given : entries_given l.reader.stage ≡ l.count;
   few : l.count ≤ 2 ^ 48;

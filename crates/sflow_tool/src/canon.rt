@@ -1,0 +1,220 @@
+// `canon`: a capture anew, each datagram with zero padding.
+ghost use Rattle.std.specs.Prelude.{◌≡◌, ◌≤◌, ◌++◌, [], false, length, take, IfSome, IfOk, vec_len};
+ghost use Rattle.sflow_io.specs.Causes.{HasCause};
+ghost use Rattle.sflow_io.specs.declared.capture.Stage.TheVariants.{Start};
+ghost use Rattle.text_lines.specs.Pages.{Prints};
+ghost use Rattle.wire_spec.specs.Captures.{capture_header, entry_bytes, entry_head};
+ghost use Rattle.command_words.specs.declared.command.Command.TheVariants as commands;
+ghost use Rattle.wire_spec.specs.Spelling.{padded};
+ghost use Rattle.sflow_tool.specs.Canons.{canon_line, canonical, header_alone, header_before};
+ghost use Rattle.sflow_tool.specs.Endings.{Flushed};
+ghost use Rattle.sflow_tool.specs.Runs.{Runs};
+ghost use Rattle.sflow_tool.specs.declared.status.Status.TheVariants.{Done};
+
+use crate::Status;
+use crate::ending::{flush, new_room, status_of};
+use crate::walk::{EntryLines, Stop, put_entries};
+use datagram_core::Datagram;
+use sflow_io::{CaptureReader, Failed, Sink, Source};
+use std::alloc::Global;
+use text_lines::Page;
+use wire_spec::Pad;
+
+// The magic, and the version 1 as a word.
+const HEADER: [u8; 8] = *b"SFLC\0\0\0\x01";
+
+// Each entry with zero padding, in a capture.
+#[derive(Drop)]
+struct CanonicalEntries {
+    // Room for a datagram with zero padding.
+    room: Vec<u8>,
+    ghost whole: { vec_len room ≡ 65535 },
+}
+
+impl EntryLines for CanonicalEntries {
+    ghost use Rattle.std.specs.Prelude.{false};
+    ghost use Rattle.sflow_tool.specs.Canons.{canon_line};
+
+    ghost line = { λ _ number entry. canon_line number entry };
+
+    ghost marks = { λ _ _. false };
+
+    fn put<K: Sink>(
+        &mut self,
+        page: &mut Page,
+        sink: &mut K,
+        number: u64,
+        at: u64,
+        bytes: &[u8],
+    ) -> Result<bool, Failed> {
+        put_whole(page, sink, &mut self.room, number, at, bytes)?;
+        Ok(false)
+    }
+}
+
+// The entry of this number with zero padding, and before the first one the header. The room is for its bytes.
+fn put_whole<K: Sink>(
+    page: &mut Page,
+    sink: &mut K,
+    room: &mut [u8],
+    number: u64,
+    at: u64,
+    bytes: &[u8],
+) -> Result<(), Failed>
+    requires short { length bytes.now ≤ 65535 }
+    requires room { 65535 ≤ length room.old }
+    ensures prints { Prints (K.taken sink.old) (K.taken sink.new) page.old page.new result
+        (canon_line number (record { arrival = at; bytes = bytes.now })) }
+    ensures cause { HasCause (K.faults sink.old) (K.faults sink.new) result }
+{
+    put_header_before(page, sink, number)?;
+    put_canonical(page, sink, room, at, bytes)
+}
+
+fn put_header<K: Sink>(page: &mut Page, sink: &mut K) -> Result<(), Failed>
+    ensures prints { Prints (K.taken sink.old) (K.taken sink.new) page.old page.new result (capture_header 1) }
+    ensures cause { HasCause (K.faults sink.old) (K.faults sink.new) result }
+{
+    page.put(sink, &HEADER)
+}
+
+// The header, before the entry of number 1.
+fn put_header_before<K: Sink>(page: &mut Page, sink: &mut K, number: u64) -> Result<(), Failed>
+    ensures prints { Prints (K.taken sink.old) (K.taken sink.new) page.old page.new result (header_before number) }
+    ensures cause { HasCause (K.faults sink.old) (K.faults sink.new) result }
+{
+    if number == 1 {
+        put_header(page, sink)
+    } else {
+        Ok(())
+    }
+}
+
+// The arrival and the length at the start of an entry.
+#[tactic(auto, unfolding(wire_spec::specs::Captures::entry_head))]
+fn head_of(at: u64, len: u32) -> [u8; 12]
+    ensures { result ≡ entry_head at len }
+{
+    let [a, b, c, d, e, f, g, h] = at.to_be_bytes();
+    let [i, j, k, l] = len.to_be_bytes();
+    [a, b, c, d, e, f, g, h, i, j, k, l]
+}
+
+// An entry, byte by byte.
+fn put_entry<K: Sink>(page: &mut Page, sink: &mut K, at: u64, bytes: &[u8]) -> Result<(), Failed>
+    requires { length bytes.now ≤ 65535 }
+    ensures prints { Prints (K.taken sink.old) (K.taken sink.new) page.old page.new result
+        (entry_bytes (record { arrival = at; bytes = bytes.now })) }
+    ensures cause { HasCause (K.faults sink.old) (K.faults sink.new) result }
+{
+    page.put(sink, &head_of(at, bytes.len() as u32))?;
+    put_padded(page, sink, bytes)
+}
+
+// The bytes, and zeros up to a multiple of four.
+fn put_padded<K: Sink>(page: &mut Page, sink: &mut K, bytes: &[u8]) -> Result<(), Failed>
+    ensures prints { Prints (K.taken sink.old) (K.taken sink.new) page.old page.new result (padded bytes.now) }
+    ensures cause { HasCause (K.faults sink.old) (K.faults sink.new) result }
+{
+    page.put(sink, bytes)?;
+    page.put(sink, &[0u8; 4][..(4 - bytes.len() % 4) % 4])
+}
+
+// The entry with zero padding.
+fn put_canonical<K: Sink>(
+    page: &mut Page,
+    sink: &mut K,
+    room: &mut [u8],
+    at: u64,
+    bytes: &[u8],
+) -> Result<(), Failed>
+    requires short { length bytes.now ≤ 65535 }
+    requires room { 65535 ≤ length room.old }
+    ensures prints { Prints (K.taken sink.old) (K.taken sink.new) page.old page.new result
+        (entry_bytes (record { arrival = at; bytes = canonical bytes.now })) }
+    ensures cause { HasCause (K.faults sink.old) (K.faults sink.new) result }
+{
+    match write_canonical(bytes, room) {
+        Some(len) => put_entry(page, sink, at, &room[..len]),
+        None => put_entry(page, sink, at, bytes),
+    }
+}
+
+// A datagram with zero padding, at the front of the room: how many bytes it has. `None` where the bytes are no
+// datagram.
+#[tactic(auto, unfolding(crate::specs::Canons::canonical))]
+fn write_canonical(bytes: &[u8], room: &mut [u8]) -> Option<usize>
+    requires room { 65535 ≤ length room.old }
+    ensures length { IfSome result (λ n. n ≤ 65535) }
+    ensures datagram { IfSome result (λ n. take n room.new ≡ canonical bytes.now) }
+    ensures other { result ≡ None → canonical bytes.now ≡ bytes.now }
+{
+    let Ok(datagram) = Datagram::parse(bytes, Pad::Any) else {
+        return None;
+    };
+    match datagram.write(room) {
+        Ok(len) => Some(len),
+        Err(_) => unreachable!(),
+    }
+}
+
+// Writes a capture anew, each datagram with zero padding. All memory is taken before the first byte is read.
+pub(crate) fn canon<S: Source, K: Sink>(alloc: Global, source: &mut S, sink: &mut K) -> Status
+    ensures { Runs commands.Canon (S.left source.old) (S.left source.new) (K.taken sink.old) (K.taken sink.new)
+        (S.faults source.old) (S.faults source.new) (K.faults sink.old) (K.faults sink.new) result }
+{
+    let Ok(mut reader) = CaptureReader::open(alloc) else {
+        return Status::Memory;
+    };
+    let Ok(room) = new_room(alloc) else {
+        return Status::Memory;
+    };
+    let mut lines = CanonicalEntries { room };
+    match new_room(alloc) {
+        Ok(mut room) => canon_in(&mut reader, &mut room, &mut lines, source, sink),
+        Err(_) => Status::Memory,
+    }
+}
+
+// The same in this room.
+fn canon_in<S: Source, K: Sink>(
+    reader: &mut CaptureReader,
+    room: &mut [u8],
+    lines: &mut CanonicalEntries,
+    source: &mut S,
+    sink: &mut K,
+) -> Status
+    requires fresh { reader.old ≡ record { stage = Start; held = [] } }
+    requires room { 65535 ≤ length room.old }
+    ensures { Runs commands.Canon (S.left source.old) (S.left source.new) (K.taken sink.old) (K.taken sink.new)
+        (S.faults source.old) (S.faults source.new) (K.faults sink.old) (K.faults sink.new) result }
+{
+    let mut page = Page::new();
+    match put_entries(reader, source, room, lines, &mut page, sink) {
+        Ok(counts) => finish(&mut page, sink, counts.entries),
+        Err(Stop::Read(refusal)) => flush(&mut page, sink, status_of(refusal)),
+        Err(Stop::Write) => Status::WriteFault,
+    }
+}
+
+// The header if there were no entries, and the end of the run.
+fn finish<K: Sink>(page: &mut Page, sink: &mut K, count: u64) -> Status
+    ensures { Flushed (K.taken sink.old) (K.taken sink.new) (page.old ++ header_alone count)
+        (K.faults sink.old) (K.faults sink.new) Done result }
+{
+    match put_header_alone(page, sink, count) {
+        Ok(()) => flush(page, sink, Status::Done),
+        Err(_) => Status::WriteFault,
+    }
+}
+
+fn put_header_alone<K: Sink>(page: &mut Page, sink: &mut K, count: u64) -> Result<(), Failed>
+    ensures prints { Prints (K.taken sink.old) (K.taken sink.new) page.old page.new result (header_alone count) }
+    ensures cause { HasCause (K.faults sink.old) (K.faults sink.new) result }
+{
+    if count == 0 {
+        put_header(page, sink)
+    } else {
+        Ok(())
+    }
+}
