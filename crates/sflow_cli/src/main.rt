@@ -10,6 +10,8 @@ use std::random::RandomSource;
 use std::{env, io};
 
 #[cfg(test)]
+mod canon_tests;
+#[cfg(test)]
 mod replay_tests;
 #[cfg(test)]
 mod tests;

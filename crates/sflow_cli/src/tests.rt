@@ -1,3 +1,4 @@
+use crate::canon_tests::RAW_HEADER_FRONT;
 use crate::seeds;
 use sflow_tool::{InputKind, Line, MemorySink, MemorySource, Status, run};
 use std::alloc::Global;
@@ -9,13 +10,13 @@ use std::test::Fail;
 pub(crate) const HEADER: [u8; 8] = *b"SFLC\0\0\0\x01";
 
 // Arrival 1,000 ms, 28 bytes: version 5, agent 10.0.0.1, sub-agent 0, sequence number 1, uptime 1,000 ms, no samples.
-const ENTRY: [u8; 40] = [
+pub(crate) const ENTRY: [u8; 40] = [
     0, 0, 0, 0, 0, 0, 3, 232, 0, 0, 0, 28, 0, 0, 0, 5, 0, 0, 0, 1, 10, 0, 0, 1, 0, 0, 0, 0, 0, 0,
     0, 1, 0, 0, 3, 232, 0, 0, 0, 0,
 ];
 
 // What stands before the bytes of such an entry, and the bytes.
-const BEFORE: [u8; 12] = [0, 0, 0, 0, 0, 0, 3, 232, 0, 0, 0, 28];
+pub(crate) const BEFORE: [u8; 12] = [0, 0, 0, 0, 0, 0, 3, 232, 0, 0, 0, 28];
 
 const DATAGRAM: [u8; 28] = [
     0, 0, 0, 5, 0, 0, 0, 1, 10, 0, 0, 1, 0, 0, 0, 0, 0, 0, 0, 1, 0, 0, 3, 232, 0, 0, 0, 0,
@@ -28,7 +29,7 @@ const OTHER_ENTRY: [u8; 40] = [
 ];
 
 // The same without its last byte, and one byte of padding.
-const CUT_ENTRY: [u8; 40] = [
+pub(crate) const CUT_ENTRY: [u8; 40] = [
     0, 0, 0, 0, 0, 0, 3, 232, 0, 0, 0, 27, 0, 0, 0, 5, 0, 0, 0, 1, 10, 0, 0, 1, 0, 0, 0, 0, 0, 0,
     0, 1, 0, 0, 3, 232, 0, 0, 0, 0,
 ];
@@ -40,7 +41,7 @@ const BADLY_PADDED_ENTRY: [u8; 40] = [
 ];
 
 // The same with one sample of a format outside the standard, of one byte and the padding 1, 2, 3.
-const PADDED: [u8; 52] = [
+pub(crate) const PADDED: [u8; 52] = [
     0, 0, 0, 0, 0, 0, 3, 232, 0, 0, 0, 40, 0, 0, 0, 5, 0, 0, 0, 1, 10, 0, 0, 1, 0, 0, 0, 0, 0, 0,
     0, 1, 0, 0, 3, 232, 0, 0, 0, 1, 1, 19, 208, 7, 0, 0, 0, 1, 255, 1, 2, 3,
 ];
@@ -70,7 +71,7 @@ pub(crate) fn words(alloc: Global, texts: &[&str]) -> Result<Vec<String>, Fail> 
     Ok(words)
 }
 
-fn joined(alloc: Global, parts: &[&[u8]]) -> Result<Vec<u8>, Fail> {
+pub(crate) fn joined(alloc: Global, parts: &[&[u8]]) -> Result<Vec<u8>, Fail> {
     let mut bytes = Vec::new(alloc);
     for part in parts {
         bytes.extend_from_slice(part)?;
@@ -130,7 +131,7 @@ const SHOW: Case<'static> = Case {
     taken: TWO_ENTRIES,
 };
 
-fn bad_input(at: u128, kind: InputKind) -> Status {
+pub(crate) fn bad_input(at: u128, kind: InputKind) -> Status {
     Status::BadInput { at, kind }
 }
 
@@ -172,6 +173,14 @@ fn captures_are_replayed_in_any_pieces(rt: HostRuntime) -> Result<(), Fail> {
             input: &[&HEADER, &ENTRY, &OTHER_ENTRY],
             piece: 8,
             taken: TWO_STREAMS,
+            ..PLAIN
+        },
+        Case {
+            name: "padding of a sampled header that isn't zero",
+            input: &[&HEADER, &RAW_HEADER_FRONT, &[7; 65], &[1, 2, 3]],
+            taken: "stream 1 agent 10.0.0.1 sub 0 boots 1 issued 1 received 1 pending 0 lost 0 repeated 0 late 0 stale 0\n\
+                    source 1 flow 0:5 issued 1 received 1 pending 0 lost 0 repeated 0 late 0 pool 0 drops 0 rate 256\n\
+                    total entries 1 malformed 0 unlisted 0 unlisted_samples 0 other 0 taps_ended 0\n",
             ..PLAIN
         },
         Case {
@@ -265,6 +274,11 @@ fn captures_are_checked(rt: HostRuntime) -> Result<(), Fail> {
             input: &[&HEADER, &PADDED],
             ..CHECK
         },
+        Case {
+            name: "padding of a sampled header that isn't zero, which is free",
+            input: &[&HEADER, &RAW_HEADER_FRONT, &[7; 65], &[1, 2, 3]],
+            ..CHECK
+        },
     ];
     for case in &cases {
         try_case(&rt, rt.alloc(), case)?;
@@ -314,18 +328,28 @@ fn entries_are_shown(rt: HostRuntime) -> Result<(), Fail> {
 
 #[test]
 fn zero_padding_is_asked_for(rt: HostRuntime) -> Result<(), Fail> {
-    let case = Case {
-        name: "padding that isn't zero and must be",
-        words: &["check", "--zero"],
-        input: &[&HEADER, &PADDED],
-        piece: 4096,
-        read_fails: &[],
-        most: 4096,
-        write_fails: &[],
-        status: Status::Found,
-        taken: "entry 1 at 37 kind pad\nchecked 1 faulty 1\n",
-    };
-    try_case(&rt, rt.alloc(), &case)
+    let cases = [
+        Case {
+            name: "padding that isn't zero and must be",
+            words: &["check", "--zero"],
+            input: &[&HEADER, &PADDED],
+            status: Status::Found,
+            taken: "entry 1 at 37 kind pad\nchecked 1 faulty 1\n",
+            ..CHECK
+        },
+        Case {
+            name: "padding of a sampled header that isn't zero and must be",
+            words: &["check", "--zero"],
+            input: &[&HEADER, &RAW_HEADER_FRONT, &[7; 65], &[1, 2, 3]],
+            status: Status::Found,
+            taken: "entry 1 at 157 kind pad\nchecked 1 faulty 1\n",
+            ..CHECK
+        },
+    ];
+    for case in &cases {
+        try_case(&rt, rt.alloc(), case)?;
+    }
+    Ok(())
 }
 
 #[test]
@@ -523,6 +547,14 @@ fn other_words_are_usage(rt: HostRuntime) -> Result<(), Fail> {
         usage(&["replay", "extra"]),
         usage(&["replay", "--streams", "0"]),
         usage(&["replay", "--streams", "4097"]),
+        usage(&["replay", "--sources", "65537"]),
+        usage(&["replay", "--boot-slack", "99"]),
+        usage(&["replay", "--streams=02"]),
+        usage(&["replay", "--streams=+5"]),
+        usage(&["replay", "--streams="]),
+        usage(&["replay", "--streams=2", "--streams=2"]),
+        usage(&["canon", "--zero"]),
+        usage(&["canon", "extra"]),
         usage(&["Replay"]),
         usage(&[""]),
         usage(&["trial", "--made", "7"]),
@@ -556,7 +588,7 @@ fn statuses_have_codes_and_texts(rt: HostRuntime) {
 }
 
 #[test]
-fn bad_input_names_the_place(rt: HostRuntime) {
+pub(crate) fn bad_input_names_the_place(rt: HostRuntime) {
     let magic = bad_input(0, InputKind::Magic);
     try_status(&rt, magic, 5, "bad input at 0 kind magic");
     let version = bad_input(4, InputKind::Version);
