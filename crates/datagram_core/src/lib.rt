@@ -29,3 +29,5 @@ mod record_tests;
 mod sample_tests;
 #[cfg(test)]
 mod tests;
+#[cfg(test)]
+mod writer_tests;
