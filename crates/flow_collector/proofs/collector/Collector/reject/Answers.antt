@@ -1,4 +1,4 @@
-use Rattle.std.proofs.Common.{◌∷◌, length, refl, sym, subst, arith}
+use Rattle.std.proofs.Common.{◌∷◌, refl, sym, subst, arith}
 use Rattle.books_spec.specs.Items.{Malformed}
 use Rattle.flow_collector.specs.Collectors.{CollectorState, collector_state, StandsFor}
 use Rattle.flow_collector.proofs.Kept.{entries-are}
