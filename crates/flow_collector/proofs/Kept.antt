@@ -5,16 +5,13 @@ use Rattle.std.specs.List.{count_by}
 use Rattle.std.proofs.lemmas.Bool.{leb-true}
 use Rattle.std.proofs.lemmas.List.Sums.{count_by-le-length}
 use Rattle.count_spec.specs.Boots.{BootPlace, Current, Next, Stale, boot_place, placed, boots}
-use Rattle.wire_spec.specs.declared.fault.Fault.{Fault}
 use Rattle.books_spec.specs.Items.{SourceId, Reading, Datagram, stamp_of, Item, Got, Malformed, Stream, stream_of, Source}
 use Rattle.books_spec.specs.Items as books
 use Rattle.books_spec.specs.Listing.{same_stream, same_source, among, listed, unlisted}
-use Rattle.books_spec.specs.Books.{is_malformed, fault_after, streams_of, First, taken_at, taken_now, entered, Entered, is_other, own, stream_boots, sources_of, source_boots}
+use Rattle.books_spec.specs.Books.{is_malformed, streams_of, First, taken_at, taken_now, entered, Entered, is_other, own, stream_boots, sources_of, source_boots}
 use Rattle.books_spec.proofs.Keys.{stream-same, and-split}
 use Rattle.collector_views.specs.declared.limits.Limits.{Limits}
-use Rattle.collector_views.specs.declared.views.FirstFault.{FirstFault}
 use Rattle.collector_views.specs.Limits.{limits_in, is_within, refused_limit}
-use Rattle.collector_views.specs.Views.{fault_shown}
 use Rattle.flow_collector.specs.Collectors.{CollectorState, StandsFor, AreFew, AreWithin}
 use Rattle.flow_collector.proofs.Entering.{first-in, stale-first}
 use Rattle.flow_collector.proofs.Boots.{source-boots-length}
@@ -49,18 +46,6 @@ within-ranges l e =
       samples_from = samples.0;
       samples_to = samples.1;
     }
-
--- ---- the first fault
-
-pub first-of-all : (o : Option FirstFault) (n : ℕ) (f : Fault) → is_some o ≡ false
-    → Some (record { entry = n + 1; fault = f }) ≡ fault_after (fault_shown o) n (Malformed f)
-first-of-all None n f e = refl
-first-of-all (Some x) n f e = absurd (true≢false e)
-
-pub not-first : (o : Option FirstFault) (n : ℕ) (f : Fault) → is_some o ≡ true
-    → fault_shown o ≡ fault_after (fault_shown o) n (Malformed f)
-not-first None n f e = absurd (true≢false (sym e))
-not-first (Some x) n f e = refl
 
 -- ---- no count overflows
 

@@ -8,13 +8,13 @@ ghost use Rattle.datagram_core.specs.Tables.{samples_read};
 ghost use Rattle.datagram_core.specs.Trees.{tree_of};
 ghost use Rattle.books_spec.specs.Items.{Datagram as Given, Item, Got, Malformed as Faulty, stream_of, Limits as Room};
 ghost use Rattle.books_spec.specs.Listing.{same_stream, among};
-ghost use Rattle.books_spec.specs.Books.{books, taken, taken_now, totals, stream_boots, listed_streams, listed_sources, most_entries};
+ghost use Rattle.books_spec.specs.Books.{books, fault_after, taken, taken_now, totals, stream_boots, listed_streams, listed_sources, most_entries};
 ghost use Rattle.stream_books.specs.Streams.{IsAt};
 ghost use Rattle.stream_books.specs.Taken.{taken_in_books};
 ghost use Rattle.collector_tables.specs.Keys.{stream_in};
 ghost use Rattle.collector_tables.specs.Listed.{StreamsStand};
 ghost use Rattle.collector_views.specs.Limits.{limits_in, refused_limit};
-ghost use Rattle.collector_views.specs.Views.{stream_shown, source_shown, totals_shown};
+ghost use Rattle.collector_views.specs.Views.{stream_shown, source_shown, fault_shown, totals_shown};
 ghost use Rattle.flow_collector.specs.Items.{datagram_in, sample_in, samples_in};
 ghost use Rattle.flow_collector.specs.Collectors.{StandsFor};
 ghost use Rattle.flow_collector.specs.Shown.{sample_shown};
@@ -225,12 +225,7 @@ impl Collector {
         }
         self.totals.entries += 1;
         self.totals.malformed += 1;
-        if self.totals.first_fault.is_none() {
-            self.totals.first_fault = Some(FirstFault {
-                entry: self.totals.entries,
-                fault: *fault,
-            });
-        }
+        self.totals.first_fault = first_of(self.totals.first_fault, self.totals.entries, fault);
         Taken::Malformed
     }
 
@@ -302,6 +297,20 @@ const NO_TOTALS: Totals = Totals {
     other: 0,
     first_fault: None,
 };
+
+// The first fault, after an entry of this number that has this fault.
+fn first_of(first: Option<FirstFault>, entry: u64, fault: &Fault) -> Option<FirstFault>
+    ensures { (before : ℕ) → entry ≡ before + 1
+        → fault_shown result ≡ fault_after (fault_shown first) before (Faulty fault.now) }
+{
+    match first {
+        Some(earlier) => Some(earlier),
+        None => Some(FirstFault {
+            entry,
+            fault: *fault,
+        }),
+    }
+}
 
 // 1 where a datagram was answered `Unlisted`, and else 0.
 fn unlisted_by(taken: Taken) -> u64

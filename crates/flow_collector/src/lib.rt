@@ -3,6 +3,7 @@
 #![tactic(auto)]
 
 mod collector;
+pub mod laws;
 mod refusal;
 mod shown;
 
@@ -10,3 +11,6 @@ pub use collector::{Collector, Seeds};
 pub use collector_views::{FirstFault, LedgerView, Limits, SourceView, StreamView, Totals};
 pub use refusal::OpenRefusal;
 pub use stream_books::Taken;
+
+#[cfg(test)]
+mod tests;

@@ -7,7 +7,7 @@ use Rattle.flow_collector.specs.Collectors.{CollectorState, collector_state, Sta
 use Rattle.flow_collector.specs.Shown.{id_shown}
 use Rattle.flow_collector.specs.Steps.{Midway, with_sample, boot_number}
 use Rattle.flow_collector.proofs.Counts.{source-kept, sources-few}
-use Rattle.flow_collector.proofs.Kept.{unlisted_samples-few}
+use Rattle.flow_collector.proofs.Kept.{boots-some, unlisted_samples-few}
 use Rattle.flow_collector.proofs.Lists.{length-last}
 use Rattle.flow_collector.proofs.Enters.{EnterStep, enters-stands}
 use Rattle.flow_collector.proofs.collector.Collector.enter.Goals as goal
@@ -123,3 +123,12 @@ invariant_of-self-else-not-enter c =
       few_samples = (omega (arith, longer, few), mid.few_samples);
       few_entries = omega (arith, room);
     }
+
+pub enter-requires-clause-boot_counts : goal.enter-requires-clause-boot_counts
+enter-requires-clause-boot_counts c =
+    let mid = c.requires.midway in
+    let l : Limits = c.args.self.now.limits in
+    let number : c.args.boot ≡ boot_number l mid.items mid.datagram =
+    c.requires.boot l mid.items mid.datagram mid.enters mid.stands in
+    let some = boots-some l mid.items mid.datagram mid.enters.first in
+    omega (arith, number, some)
