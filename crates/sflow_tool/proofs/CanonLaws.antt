@@ -1,6 +1,5 @@
 -- What holds of entries that were written anew.
-use Rattle.std.proofs.Common.{◌≡◌, ◌∙◌, ◌≤◌, ◌<◌, ◌+◌, ℕ, Bool, true, false, cond, List, [], ◌∷◌, ◌++◌, length, take, map, flat_map, All, fold, Option, Result, Ok, Err, refl, sym, ap, ap₂, subst, arith, add-zero}
-use Rattle.std.specs.List.{count_by}
+use Rattle.std.proofs.Common.{◌≡◌, ◌∙◌, ◌≤◌, ◌+◌, ℕ, true, cond, List, [], ◌∷◌, ◌++◌, length, map, flat_map, All, fold, Result, Ok, Err, refl, sym, ap, ap₂, subst}
 use Rattle.std.proofs.lemmas.List.Elements.{All-cons, All-head, All-nil, All-tail}
 use Rattle.std.proofs.Math.Seq.{take-append_seam}
 use Rattle.wire_spec.specs.declared.fault.Fault.{Fault}
