@@ -84,15 +84,6 @@ fn take(
     Ok(collector.take(came.at, &datagram))
 }
 
-// Takes datagrams without samples, and gives the last answer.
-fn take_all(collector: &mut Collector, alloc: Global, datagrams: &[Came]) -> Result<Taken, Fail> {
-    let mut last = Taken::Malformed;
-    for datagram in datagrams {
-        last = take(collector, alloc, *datagram, &[])?;
-    }
-    Ok(last)
-}
-
 // What is shown of a stream: its numbers, boots and stale datagrams.
 fn stream_shown(collector: &Collector, place: usize) -> Option<(LedgerView, u64, u64)> {
     let view = collector.stream(place)?;
@@ -119,140 +110,6 @@ fn numbers(issued: u128, received: u64, pending: u32, lost: u128) -> LedgerView 
         lost,
         ..NONE
     }
-}
-
-#[test]
-fn streams_are_counted(rt: HostRuntime) -> Result<(), Fail> {
-    let late = LedgerView {
-        late: 1,
-        ..numbers(1, 1, 0, 0)
-    };
-    let far = numbers(2_147_483_648, 2, 63, 2_147_483_583);
-    let e = at_once;
-    let rows: [(&[Came], Taken, LedgerView, u64, u64); 19] = [
-        (
-            &[e(4_294_967_295), e(0), e(1)],
-            Taken::First,
-            numbers(3, 3, 0, 0),
-            1,
-            0,
-        ),
-        (&[e(5), e(7)], Taken::First, numbers(3, 2, 1, 0), 1, 0),
-        (&[e(5), e(7), e(6)], Taken::First, numbers(3, 3, 0, 0), 1, 0),
-        (&[e(5), e(3)], Taken::First, numbers(3, 2, 1, 0), 1, 0),
-        (&[e(100), e(37)], Taken::First, numbers(64, 2, 62, 0), 1, 0),
-        (&[e(100), e(36)], Taken::Late, late, 1, 0),
-        (
-            &[e(10), e(200)],
-            Taken::First,
-            numbers(191, 2, 63, 126),
-            1,
-            0,
-        ),
-        (
-            &[e(10), e(200), e(150)],
-            Taken::First,
-            numbers(191, 3, 62, 126),
-            1,
-            0,
-        ),
-        (&[e(0), e(2_147_483_648)], Taken::Late, late, 1, 0),
-        (&[e(0), e(2_147_483_647)], Taken::First, far, 1, 0),
-        (
-            &[
-                sent(100_000, 90_000, 5),
-                sent(100_010, 90_010, 7),
-                sent(130_000, 1000, 1),
-            ],
-            Taken::First,
-            numbers(4, 3, 0, 1),
-            2,
-            0,
-        ),
-        (
-            &[
-                sent(100_000, 90_000, 5),
-                sent(100_010, 90_010, 7),
-                sent(130_000, 1000, 1),
-                sent(131_000, 120_000, 8),
-            ],
-            Taken::Stale,
-            numbers(4, 3, 0, 1),
-            2,
-            1,
-        ),
-        (
-            &[sent(100_000, 90_000, 5), sent(105_000, 90_000, 6)],
-            Taken::First,
-            numbers(2, 2, 0, 0),
-            1,
-            0,
-        ),
-        (
-            &[sent(100_000, 90_000, 5), sent(105_001, 90_000, 6)],
-            Taken::First,
-            numbers(2, 2, 0, 0),
-            2,
-            0,
-        ),
-        (
-            &[sent(100_000, 90_000, 5), sent(95_000, 90_000, 6)],
-            Taken::First,
-            numbers(2, 2, 0, 0),
-            1,
-            0,
-        ),
-        (
-            &[sent(100_000, 90_000, 5), sent(94_999, 90_000, 6)],
-            Taken::Stale,
-            numbers(1, 1, 0, 0),
-            1,
-            1,
-        ),
-        (
-            &[
-                sent(3_000_000_000, 2_592_000_000, 5),
-                sent(3_000_060_000, 10_000, 1),
-            ],
-            Taken::First,
-            numbers(2, 2, 0, 0),
-            2,
-            0,
-        ),
-        (
-            &[
-                sent(5_000_000_000, 4_294_967_000, 5),
-                sent(5_000_000_396, 100, 6),
-            ],
-            Taken::First,
-            numbers(2, 2, 0, 0),
-            1,
-            0,
-        ),
-        (
-            &[e(1), e(1), e(1)],
-            Taken::Repeat,
-            LedgerView {
-                repeated: 2,
-                ..numbers(1, 1, 0, 0)
-            },
-            1,
-            0,
-        ),
-    ];
-    for (datagrams, answer, ledger, boots, stale) in rows {
-        let mut collector = opened(&rt, rt.alloc(), Limits::usual())?;
-        let last = take_all(&mut collector, rt.alloc(), datagrams)?;
-        assert_eq!(rt; last, answer, "of {datagrams:?}");
-        assert_eq!(rt;
-            stream_shown(&collector, 0),
-            Some((ledger, boots, stale)),
-            "of {datagrams:?}"
-        );
-        assert!(rt; collector.stream(1).is_none());
-        assert_eq!(rt; counts(&collector), [datagrams.len() as u64, 0, 0, 0, 0]);
-    }
-    Ok(())
 }
 
 // A flow sample in the compact form, of class 0: sequence, index, pool and drops; the rate is 256.
@@ -316,33 +173,6 @@ fn samples_are_entered_once(rt: HostRuntime) -> Result<(), Fail> {
     );
     assert_eq!(rt; collector.source_count(), 1);
     assert!(rt; collector.source(1).is_none());
-    Ok(())
-}
-
-#[test]
-fn pools_and_drops_rise(rt: HostRuntime) -> Result<(), Fail> {
-    let wraps = [flow(1, 5, 0xffff_fff0, 0xffff_ffff), flow(2, 5, 16, 0)];
-    let halves = [
-        flow(1, 5, 0, 0),
-        flow(2, 5, 0x8000_0000, 0),
-        flow(3, 5, 0, 0),
-    ];
-    let rows: [(&[[u32; 10]], LedgerView); 2] = [
-        (&wraps, sampled(2, 2, 32, 1)),
-        (&halves, sampled(3, 3, 4_294_967_296, 0)),
-    ];
-    for (samples, ledger) in rows {
-        let mut collector = opened(&rt, rt.alloc(), Limits::usual())?;
-        let mut number = 0u32;
-        for sample in samples {
-            number = number.saturating_add(1);
-            take(&mut collector, rt.alloc(), at_once(number), &[sample])?;
-        }
-        assert_eq!(rt;
-            source_shown(&collector, 0),
-            Some((1, true, interface(5), ledger))
-        );
-    }
     Ok(())
 }
 
@@ -420,34 +250,6 @@ fn streams_and_sources_beyond_the_limits(rt: HostRuntime) -> Result<(), Fail> {
 }
 
 #[test]
-fn a_third_stream_where_two_are_listed(rt: HostRuntime) -> Result<(), Fail> {
-    let limits = Limits {
-        streams: 2,
-        ..Limits::usual()
-    };
-    let mut collector = opened(&rt, rt.alloc(), limits)?;
-    for sub_agent in [0, 1, 2] {
-        let came = Came {
-            sub_agent,
-            ..at_once(1)
-        };
-        take(&mut collector, rt.alloc(), came, &[])?;
-    }
-    take(&mut collector, rt.alloc(), at_once(2), &[])?;
-    assert_eq!(rt;
-        stream_shown(&collector, 0),
-        Some((numbers(2, 2, 0, 0), 1, 0))
-    );
-    assert_eq!(rt;
-        stream_shown(&collector, 1),
-        Some((numbers(1, 1, 0, 0), 1, 0))
-    );
-    assert!(rt; collector.stream(2).is_none());
-    assert_eq!(rt; counts(&collector), [4, 0, 1, 0, 0]);
-    Ok(())
-}
-
-#[test]
 fn the_first_fault_is_kept(rt: HostRuntime) -> Result<(), Fail> {
     let mut collector = opened(&rt, rt.alloc(), Limits::usual())?;
     let short = Fault {
@@ -472,109 +274,34 @@ fn the_first_fault_is_kept(rt: HostRuntime) -> Result<(), Fail> {
     Ok(())
 }
 
+fn refused<R: RandomSource>(
+    rt: &R,
+    alloc: Global,
+    limits: Limits,
+) -> Result<Option<OpenRefusal>, Fail> {
+    let seeds = Seeds {
+        streams: RandomState::new(rt)?,
+        sources: RandomState::new(rt)?,
+    };
+    Ok(Collector::open(alloc, limits, seeds).err())
+}
+
 #[test]
 fn limits_out_of_their_ranges(rt: HostRuntime) -> Result<(), Fail> {
-    let usual = Limits::usual();
-    let rows = [
-        (
-            Limits {
-                streams: 0,
-                ..usual
-            },
-            1,
-        ),
-        (
-            Limits {
-                streams: 4097,
-                ..usual
-            },
-            1,
-        ),
-        (
-            Limits {
-                sources: 0,
-                ..usual
-            },
-            2,
-        ),
-        (
-            Limits {
-                sources: 65_537,
-                ..usual
-            },
-            2,
-        ),
-        (
-            Limits {
-                datagram_width: 0,
-                ..usual
-            },
-            3,
-        ),
-        (
-            Limits {
-                datagram_width: 1025,
-                ..usual
-            },
-            3,
-        ),
-        (
-            Limits {
-                sample_width: 0,
-                ..usual
-            },
-            4,
-        ),
-        (
-            Limits {
-                sample_width: 1025,
-                ..usual
-            },
-            4,
-        ),
-        (
-            Limits {
-                boot_slack: 99,
-                ..usual
-            },
-            5,
-        ),
-        (
-            Limits {
-                boot_slack: 1_073_741_825,
-                ..usual
-            },
-            5,
-        ),
-        (
-            Limits {
-                boot_slack: 0,
-                sources: 0,
-                ..usual
-            },
-            2,
-        ),
-    ];
-    for (limits, number) in rows {
-        let seeds = Seeds {
-            streams: RandomState::new(&rt)?,
-            sources: RandomState::new(&rt)?,
-        };
-        match Collector::open(rt.alloc(), limits, seeds) {
-            Ok(_) => assert!(rt; false, "opened with {limits:?}"),
-            Err(refusal) => assert_eq!(rt; refusal, OpenRefusal::BadLimit { number }),
-        }
-    }
-    let least = Limits {
-        streams: 1,
-        sources: 1,
-        datagram_width: 1,
-        sample_width: 1,
-        boot_slack: 100,
+    let alloc = rt.alloc();
+    let no_streams = Limits {
+        streams: 0,
+        ..Limits::usual()
     };
-    let mut collector = opened(&rt, rt.alloc(), least)?;
-    take(&mut collector, rt.alloc(), at_once(1), &[])?;
-    assert_eq!(rt; collector.stream_count(), 1);
+    let first = refused(&rt, alloc, no_streams)?;
+    assert_eq!(rt; first, Some(OpenRefusal::BadLimit { number: 1 }));
+    let two_of_them = Limits {
+        boot_slack: 0,
+        sources: 65_537,
+        ..Limits::usual()
+    };
+    let second = refused(&rt, alloc, two_of_them)?;
+    assert_eq!(rt; second, Some(OpenRefusal::BadLimit { number: 2 }));
     Ok(())
 }
 
