@@ -142,15 +142,15 @@ fn lines_of_entries(rt: HostRuntime) -> Result<(), Fail> {
 fn a_write_fails_behind_the_first(rt: HostRuntime) -> Result<(), Fail> {
     let mut bytes = Vec::new(rt.alloc());
     push_words(&mut bytes, &HEAD)?;
-    push_words(&mut bytes, &[1, 9, 3000])?;
-    bytes.extend_from_slice(vec![in rt.alloc(); 0xa5; 3000]?.as_slice())?;
+    push_words(&mut bytes, &[1, 9, 30_000])?;
+    bytes.extend_from_slice(vec![in rt.alloc(); 0xa5; 30_000]?.as_slice())?;
     assert!(rt; bytes.len() <= 65_535);
     let fails = Vec::from_slice(rt.alloc(), &[3])?;
-    let mut sink = MemorySink::new(rt.alloc(), 10_000, fails);
+    let mut sink = MemorySink::new(rt.alloc(), 100_000, fails);
     assert_eq!(rt; show_entry(&mut sink, 1, 5, &bytes), Err(WriteFault));
     assert!(rt;
         sink.bytes()
-            .starts_with(b"entry 1 at 5 bytes 3036\ndatagram agent 10.0.0.1 ")
+            .starts_with(b"entry 1 at 5 bytes 30036\ndatagram agent 10.0.0.1 ")
     );
     assert!(rt; sink.bytes().ends_with(b"a5a5"));
     Ok(())

@@ -63,11 +63,11 @@ fn repeated(alloc: Global, times: u32) -> Result<String, AllocError> {
 
 #[test]
 fn a_line_may_be_longer_than_the_page(rt: HostRuntime) -> Result<(), Fail> {
-    let longer = repeated(rt.alloc(), 75)?;
-    let whole = repeated(rt.alloc(), 64)?;
+    let longer = repeated(rt.alloc(), 1_075)?;
+    let whole = repeated(rt.alloc(), 1_024)?;
     let texts = ["a ", &longer, " b ", &whole, " c\n"];
     let mut want = String::new(rt.alloc());
-    let mut sink = MemorySink::new(rt.alloc(), 3000, Vec::new(rt.alloc()));
+    let mut sink = MemorySink::new(rt.alloc(), 40_000, Vec::new(rt.alloc()));
     let mut page = Page::new();
     for text in texts {
         want.push_str(text)?;
@@ -92,9 +92,9 @@ fn many_bytes_in_hexadecimal(rt: HostRuntime) -> Result<(), Fail> {
 
 #[test]
 fn a_write_fails_in_mid_line(rt: HostRuntime) -> Result<(), Fail> {
-    let longer = repeated(rt.alloc(), 75)?;
+    let longer = repeated(rt.alloc(), 1_075)?;
     let fails = Vec::from_slice(rt.alloc(), &[2])?;
-    let mut sink = MemorySink::new(rt.alloc(), 3000, fails);
+    let mut sink = MemorySink::new(rt.alloc(), 40_000, fails);
     let pieces = [
         Piece::Text("first "),
         Piece::Text(&longer),
