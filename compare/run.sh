@@ -1,8 +1,8 @@
 #!/usr/bin/env bash
-# Compares `sflow check`, `sflow check --zero` and `sflow show` with a second reader of captures, over the examples and
-# over made captures. It needs python3, and is no part of the tests.
+# Compares `sflow check`, `sflow check --zero` and `sflow show` with a second reader of captures, and `sflow replay` with a
+# second collector, over the examples and over made captures. It needs python3, and is no part of the tests.
 #   compare/run.sh [SEEDS]
-# SEEDS is how many captures of 10,000 entries are made (4).
+# SEEDS is how many captures of 10,000 entries, and how many of 4,000 datagrams sent, are made (4).
 set -eu
 cd "$(dirname "${BASH_SOURCE[0]}")/.."
 seeds=${1:-4}
@@ -23,12 +23,33 @@ compare() {
   fi
 }
 
+# The limits in the order of their numbers.
+report() {
+  local capture=$1 streams=$2 sources=$3 datagrams=$4 samples=$5 slack=$6
+  ./sflow replay --streams "$streams" --sources "$sources" --datagram-width "$datagrams" --sample-width "$samples" \
+    --boot-slack "$slack" < "$capture" > "$folder/ours"
+  python3 compare/collect.py "$streams" "$sources" "$datagrams" "$samples" "$slack" < "$capture" > "$folder/theirs"
+  if cmp -s "$folder/ours" "$folder/theirs"; then
+    echo "same: replay, limits $streams $sources $datagrams $samples $slack, $capture, $(wc -l < "$folder/ours") lines"
+  else
+    echo "DIFFERENT: replay, limits $streams $sources $datagrams $samples $slack, $capture"
+    status=1
+  fi
+}
+
 for seed in $(seq "$seeds"); do
   python3 compare/make_capture.py "$seed" 10000 > "$folder/seed-$seed.sflc"
+  python3 compare/make_run.py "$seed" 4000 > "$folder/run-$seed.sflc"
 done
 for capture in examples/*.sflc "$folder"/*.sflc; do
   compare "$capture" "check" check
   compare "$capture" "check --zero" zero
   compare "$capture" "show" show
+done
+for capture in examples/*.sflc "$folder"/run-*.sflc; do
+  report "$capture" 256 4096 64 1024 5000
+  report "$capture" 4 9 8 16 100
+  report "$capture" 6 40 1 1 30000
+  report "$capture" 256 4096 1024 64 1073741824
 done
 exit $status

@@ -1,0 +1,146 @@
+#!/usr/bin/env python3
+"""A second collector, written from docs/PROMISES.md alone, to compare `sflow replay` with.
+
+    compare/collect.py STREAMS SOURCES DATAGRAM_WIDTH SAMPLE_WIDTH BOOT_SLACK < CAPTURE
+
+Prints what `sflow replay` is to print for a lawful capture under these limits. It keeps all counted numbers.
+"""
+import sys
+
+from decode import Fault, datagram, entries
+
+WORD = 1 << 32
+
+
+class Window:
+    """The numbers counted so far, with what else came to be known of each."""
+
+    def __init__(self, width):
+        self.width, self.counted, self.repeated, self.late = width, {}, 0, 0
+        self.rises = [0, 0]
+
+    def enter(self, mark, *values):
+        if not self.counted:
+            self.counted[mark] = values
+            return True
+        top, least = max(self.counted), min(self.counted)
+        number = top - WORD // 2 + (mark - top + WORD // 2) % WORD
+        if number <= top - self.width:
+            self.late += 1
+            return False
+        if number in self.counted:
+            self.repeated += 1
+            return False
+        for place in range(2 if len(values) > 1 else 0):
+            if number > top:
+                self.rises[place] += (values[place] - self.counted[top][place]) % WORD
+            elif number < least:
+                self.rises[place] += (self.counted[least][place] - values[place]) % WORD
+        self.counted[number] = values
+        return True
+
+    def figures(self, closed):
+        if not self.counted:
+            return [0] * 6
+        top, least = max(self.counted), min(self.counted)
+        issued, received = top - least + 1, len(self.counted)
+        near = sum(number >= least and number not in self.counted for number in range(top - self.width + 1, top))
+        pending = 0 if closed else near
+        return [issued, received, pending, issued - received - pending, self.repeated, self.late]
+
+
+def summed(boots):
+    rows = [boot.figures(place + 1 < len(boots)) for place, boot in enumerate(boots)]
+    names = ("issued", "received", "pending", "lost", "repeated", "late")
+    return " ".join(f"{name} {sum(row[place] for row in rows)}" for place, name in enumerate(names))
+
+
+class Stream:
+    def __init__(self, name, width, slack):
+        self.name, self.width, self.slack, self.stale, self.boots = name, width, slack, 0, []
+
+    def takes(self, arrival, uptime, sequence):
+        mark = arrival - uptime
+        if self.boots:
+            window = self.boots[-1]
+            apart = mark - window.counted[max(window.counted)][0]
+            rest = apart % WORD
+            if min(rest, WORD - rest) <= self.slack:
+                return window.enter(sequence, mark)
+            if apart <= 0:
+                self.stale += 1
+                return False
+        self.boots.append(Window(self.width))
+        return self.boots[-1].enter(sequence, mark)
+
+
+class Source:
+    """Its windows stand beside the boots of its stream; those in which it has no sample are empty."""
+
+    def __init__(self, number, stream, name, flow, width):
+        self.number, self.stream, self.name, self.flow, self.width, self.boots = number, stream, name, flow, width, []
+
+    def windows(self):
+        while len(self.boots) < len(self.stream.boots):
+            self.boots.append(Window(self.width))
+        return self.boots
+
+    def line(self):
+        boots = self.windows()
+        line = f"source {self.number} {'flow' if self.flow else 'counters'} {self.name} {summed(boots)}"
+        if not self.flow:
+            return line
+        pool, drops = (sum(boot.rises[place] for boot in boots) for place in (0, 1))
+        last = [boot for boot in boots if boot.counted][-1]
+        return f"{line} pool {pool} drops {drops} rate {last.counted[max(last.counted)][2]}"
+
+
+def main():
+    most_streams, most_sources, datagram_width, sample_width, slack = map(int, sys.argv[1:])
+    streams, sources, first_fault = {}, {}, None
+    total = dict.fromkeys(("entries", "malformed", "unlisted", "unlisted_samples", "other"), 0)
+    for arrival, data in entries(sys.stdin.buffer.read()):
+        total["entries"] += 1
+        try:
+            head, *lines = datagram(data, False)
+        except Fault as fault:
+            total["malformed"] += 1
+            first_fault = first_fault or (total["entries"], *fault.args)
+            continue
+        words = head.split()
+        key = (words[2], words[4])
+        if key not in streams and len(streams) == most_streams:
+            total["unlisted"] += 1
+            continue
+        stream = streams.setdefault(key, Stream(key, datagram_width, slack))
+        if not stream.takes(arrival, int(words[8]), int(words[6])):
+            continue
+        for line in lines:
+            if line.startswith("  "):
+                continue
+            words = line.split()
+            if words[0] == "sample":
+                total["other"] += 1
+                continue
+            flow = words[0].startswith("flow")
+            name = (key, flow, words[4])
+            if name not in sources and len(sources) == most_sources:
+                total["unlisted_samples"] += 1
+                continue
+            number = list(streams).index(key) + 1
+            source = sources.setdefault(name, Source(number, stream, words[4], flow, sample_width))
+            shown = [int(words[place]) for place in (8, 10, 6)] if flow else []
+            source.windows()[-1].enter(int(words[2]), *shown)
+    for number, stream in enumerate(streams.values(), 1):
+        agent, sub_agent = stream.name
+        print(f"stream {number} agent {agent} sub {sub_agent} boots {len(stream.boots)} {summed(stream.boots)}",
+              f"stale {stream.stale}")
+    for source in sources.values():
+        print(source.line())
+    if first_fault:
+        print("fault entry {} at {} kind {}".format(*first_fault))
+    print("total", " ".join(f"{name} {count}" for name, count in total.items()), "taps_ended 0")
+
+
+if __name__ == "__main__":
+    main()
