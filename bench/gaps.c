@@ -3,30 +3,9 @@
  * and an index) it keeps the last number in a table, and adds what lies between that number and the next one. It
  * prints how many entries, malformed entries, keys and missing numbers there are.
  *   cc -O2 -o gaps bench/gaps.c && ./gaps < CAPTURE */
-#include <stdint.h>
 #include <stdio.h>
-#include <string.h>
-#include <unistd.h>
 
-static uint8_t ahead[1 << 16], room[65536];
-static size_t next, held;
-
-static size_t take(uint8_t *place, size_t wanted) {
-    size_t done = 0;
-    while (done < wanted) {
-        if (next == held) {
-            ssize_t got = read(0, ahead, sizeof ahead);
-            if (got <= 0) break;
-            next = 0;
-            held = (size_t)got;
-        }
-        size_t piece = held - next < wanted - done ? held - next : wanted - done;
-        memcpy(place + done, ahead + next, piece);
-        next += piece;
-        done += piece;
-    }
-    return done;
-}
+#include "capture.h"
 
 /* A key: the address with its kind, the sub-agent, and of a source its kind of samples, its class and its index. */
 typedef struct { uint32_t part[9]; } Key;
@@ -52,23 +31,6 @@ static void count(const Key *key, uint32_t sequence) {
         missing += (uint32_t)ahead_by - 1;
     }
     slots[place].last = sequence;
-}
-
-typedef struct { const uint8_t *at, *end; } Cursor;
-
-static int word(Cursor *c, uint32_t *value) {
-    if (c->end - c->at < 4) return 0;
-    uint32_t bytes;
-    memcpy(&bytes, c->at, 4);
-    *value = __builtin_bswap32(bytes);
-    c->at += 4;
-    return 1;
-}
-
-static int skip(Cursor *c, size_t bytes) {
-    if ((size_t)(c->end - c->at) < bytes) return 0;
-    c->at += bytes;
-    return 1;
 }
 
 static int address(Cursor *c, Key *key) {
@@ -123,18 +85,9 @@ static int datagram(Cursor c) {
 }
 
 int main(void) {
-    uint64_t entries = 0, malformed = 0;
-    uint8_t head[12];
-    if (take(head, 8) != 8 || memcmp(head, "SFLC\0\0\0\1", 8) != 0) return 5;
-    while (take(head, 12) == 12) {
-        Cursor at = {head + 8, head + 12};
-        uint32_t length;
-        word(&at, &length);
-        if (length > 65535 || take(room, length + (-length & 3)) != length + (-length & 3)) return 5;
-        entries++;
-        malformed += !datagram((Cursor){room, room + length});
-    }
-    printf("entries %llu malformed %llu keys %llu missing %llu\n", (unsigned long long)entries,
-           (unsigned long long)malformed, (unsigned long long)keys, (unsigned long long)missing);
-    return malformed > 0;
+    Counts counts = {0, 0};
+    if (each_datagram(datagram, &counts) != 0) return 5;
+    printf("entries %llu malformed %llu keys %llu missing %llu\n", (unsigned long long)counts.entries,
+           (unsigned long long)counts.malformed, (unsigned long long)keys, (unsigned long long)missing);
+    return counts.malformed > 0;
 }
