@@ -1,5 +1,5 @@
 -- Keys are compared as streams and sources are.
-use Rattle.std.proofs.Common.{◌≡◌, ℕ, Bool, true, false, ◌||◌, Option, Some, None, List, [], ◌∷◌, length, get_or, refl, ◌+◌, sym, ap, ◌∙◌, ◌<◌, ◌≤◌, cond, not, zero, suc, true≢false, arith}
+use Rattle.std.proofs.Common.{◌≡◌, ℕ, Bool, true, false, ◌||◌, Option, Some, None, List, [], ◌∷◌, length, get_or, refl, ◌+◌, sym, ap, ◌∙◌, ◌<◌, cond, not, zero, suc, true≢false, arith}
 use Rattle.std.specs.Prelude.{slice_get, position, ◌&&◌, ◌==◌}
 use Rattle.std.specs.List.{list_any, position_or_len}
 use Rattle.std.specs.Map.{keys_of}

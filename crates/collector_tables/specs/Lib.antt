@@ -4,3 +4,4 @@ pub mod Takes
 pub mod Listed
 pub mod Sources
 pub mod Enters
+pub mod Hashes

@@ -1,7 +1,14 @@
+ghost use Rattle.std.specs.Prelude.{◌+◌, ◌*◌, ◌%◌, ◌^◌, ◌++◌, if◌then◌else◌};
+ghost use Rattle.std.specs.Hash as fed;
+ghost use Rattle.std.specs.Cmp.Rules.{hashing};
+ghost use Rattle.std.proofs.Common.{rules};
+ghost use Rattle.collector_tables.specs.Hashes.{stream_words, same_words};
+
 use data_format::{Address, SourceId};
+use std::hash::{Hash, Hasher};
 
 /// A stream: a sub-agent of an agent.
-#[derive(Clone, Copy, Debug, PartialEq, Eq, Hash)]
+#[derive(Clone, Copy, Debug, PartialEq, Eq)]
 pub struct StreamKey {
     /// The address of the agent.
     pub agent: Address,
@@ -9,8 +16,29 @@ pub struct StreamKey {
     pub sub_agent: u32,
 }
 
+// A hasher takes whole words at once, and shorter pieces byte by byte. Each word is one round more, so there are as few
+// as may be: an unknown address has the words of the IPv4 address of zeros.
+impl Hash for StreamKey {
+    ghost hash_input = { λ k. stream_words k.agent k.sub_agent };
+
+    ghost respects_eq = { same_words };
+
+    #[inline(always)]
+    fn hash<H: Hasher>(&self, state: &mut H) {
+        let sub_agent = (self.sub_agent as u64) << 32;
+        match self.agent {
+            Address::Unknown => state.write_u64(sub_agent),
+            Address::V4(bytes) => state.write_u64(sub_agent + u32::from_be_bytes(bytes) as u64),
+            Address::V6(bytes) => {
+                state.write_u64(sub_agent);
+                state.write_u128(u128::from_be_bytes(bytes));
+            }
+        }
+    }
+}
+
 /// A source: what samples are taken of within a stream.
-#[derive(Clone, Copy, Debug, PartialEq, Eq, Hash)]
+#[derive(Clone, Copy, Debug, PartialEq, Eq)]
 pub struct SourceKey {
     /// The stream.
     pub stream: StreamKey,
@@ -18,4 +46,19 @@ pub struct SourceKey {
     pub flow: bool,
     /// What is sampled or counted.
     pub source: SourceId,
+}
+
+// Classes that differ by 2^31 have the same word.
+impl Hash for SourceKey {
+    ghost hash_input = { λ k. ⟦<StreamKey as Hash>⟧.hash_input k.stream
+        ++ fed.u64 ((k.source.class % 2 ^ 31 * 2 + (if k.flow then 1 else 0)) * 2 ^ 32 + k.source.index) };
+
+    ghost respects_eq = { Prim.search (hashing, rules) };
+
+    #[inline(always)]
+    fn hash<H: Hasher>(&self, state: &mut H) {
+        self.stream.hash(state);
+        let kind = self.source.class % (1 << 31) * 2 + self.flow as u32;
+        state.write_u64(((kind as u64) << 32) + self.source.index as u64);
+    }
 }

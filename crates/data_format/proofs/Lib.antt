@@ -5,3 +5,4 @@ pub mod TableFrames
 pub mod Parts
 pub mod Samples
 pub mod Records
+pub mod Unchecked

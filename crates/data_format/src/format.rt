@@ -11,6 +11,7 @@ pub struct Format {
 
 impl Format {
     /// The format of a word: the upper 20 bits are the enterprise, the lower 12 the number.
+    #[inline(always)]
     pub fn from_word(word: u32) -> Format
         ensures word { word ≡ result.enterprise * 4096 + result.number }
         ensures enterprise { result.enterprise < 2 ^ 20 }
@@ -23,6 +24,7 @@ impl Format {
     }
 
     /// The word of a format, whose enterprise is below 2^20 and whose number is below 2^12.
+    #[inline(always)]
     pub fn to_word(&self) -> u32
         requires enterprise { self.now.enterprise < 2 ^ 20 }
         requires number { self.now.number < 2 ^ 12 }

@@ -90,6 +90,7 @@ impl<'a> Frames<'a> {
     }
 
     /// How many are left.
+    #[inline(always)]
     pub fn len(&self) -> u32
         ensures { result ≡ length self.now }
     {
@@ -97,6 +98,7 @@ impl<'a> Frames<'a> {
     }
 
     /// The same frames once more.
+    #[inline(always)]
     pub fn fork(&self) -> Frames<'a>
         ensures { result ≡ self.now }
     {
@@ -109,6 +111,7 @@ impl<'a> Frames<'a> {
 
     /// The first one that is left, which is then passed; `None` exactly where none is left. The place behind its body
     /// is below 2^32.
+    #[inline(always)]
     pub fn next(&mut self) -> Option<Frame<'a>>
         ensures none { IfNone result ((self.old ≡ []) × (self.new ≡ [])) }
         ensures some { IfSome result (λ f. self.old ≡ frame_view f ∷ self.new) }

@@ -15,7 +15,7 @@ mod port;
 mod source;
 
 pub use address::Address;
-pub use check::BodyCheck;
+pub use check::{AnyBody, BodyCheck};
 pub use failed::Failed;
 pub use format::{Format, Frame};
 pub use frames::Frames;

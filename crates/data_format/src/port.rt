@@ -13,6 +13,7 @@ pub struct Port {
 
 impl Port {
     /// The port of a word: the top 2 bits are the form, the lower 30 the value.
+    #[inline(always)]
     pub fn from_compact(word: u32) -> Port
         ensures exact { result ≡ port_of word }
         ensures word { word ≡ port_word result }
@@ -25,6 +26,7 @@ impl Port {
     }
 
     /// The word of a port; `None` exactly where the form is above 3 or the value is 2^30 or more.
+    #[inline(always)]
     pub fn compact(&self) -> Option<u32>
         ensures none { IfNone result (¬ IsCompactPort self.now) }
         ensures some { IfSome result (λ w. IsCompactPort self.now × (w ≡ port_word self.now)) }

@@ -13,6 +13,7 @@ pub struct SourceId {
 
 impl SourceId {
     /// The source of a word: the top 8 bits are the class, the lower 24 the index.
+    #[inline(always)]
     pub fn from_compact(word: u32) -> SourceId
         ensures exact { result ≡ source_of word }
         ensures word { word ≡ source_word result }
@@ -25,6 +26,7 @@ impl SourceId {
     }
 
     /// The word of a source; `None` exactly where the class is above 255 or the index is 2^24 or more.
+    #[inline(always)]
     pub fn compact(&self) -> Option<u32>
         ensures none { IfNone result (¬ IsCompactSource self.now) }
         ensures some { IfSome result (λ w. IsCompactSource self.now × (w ≡ source_word self.now)) }

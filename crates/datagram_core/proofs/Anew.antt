@@ -4,11 +4,9 @@ use Rattle.std.proofs.lemmas.List.{length-append}
 use Rattle.wire_spec.specs.Heads.{Head, datagram_tree}
 use Rattle.wire_spec.specs.Shapes.{Tree, Trees, none, ◌&◌}
 use Rattle.wire_spec.specs.Spelling.{spell, spell_all}
-use Rattle.data_format.specs.Trees.{frame_trees}
+use Rattle.data_format.specs.Trees.{frame_tree, frame_trees}
 use Rattle.data_format.specs.Views.{FrameView}
-use Rattle.datagram_core.specs.Samples.{sample_tree, IsSampleOf}
-use Rattle.datagram_core.specs.Tables.{samples_read}
-use Rattle.datagram_core.specs.declared.sample.Sample.{Sample}
+use Rattle.datagram_views.specs.Tables.{samples_read}
 use Rattle.datagram_core.specs.declared.writer.DatagramWriter.{DatagramWriter}
 use Rattle.datagram_core.specs.Written.{and_then, joined}
 use Rattle.datagram_core.specs.Writers.{most_of, IsClosed, Has, SameRoom}
@@ -32,15 +30,13 @@ writing_start w all closed = record {
   has = λ h has. has;
 }
 
--- the next of the frames is this sample
-pub writing_next : (start w : DatagramWriter) (all : Trees) (old new : List FrameView) (s : Sample)
-    → IsWriting start w all (frame_trees samples_read old)
-    → ((f : FrameView) × (old ≡ f ∷ new) × IsSampleOf f s)
-    → IsWriting start w all (sample_tree s & frame_trees samples_read new)
-writing_next start w all old new s writing (f, parts, of) =
-    let T = samples_read in
+-- the next of the frames is this one
+pub writing_next : (start w : DatagramWriter) (all : Trees) (old new : List FrameView) (f : FrameView)
+    → IsWriting start w all (frame_trees samples_read old) → old ≡ f ∷ new
+    → IsWriting start w all (frame_tree samples_read f & frame_trees samples_read new)
+writing_next start w all old new f writing parts =
     let P : Trees → Type 0 = IsWriting start w all in
-    subst P (ap (λ (fs : List FrameView). frame_trees T fs) parts ∙ ap (λ t. t & frame_trees T new) (sym of.value)) writing
+    subst P (ap (λ (fs : List FrameView). frame_trees samples_read fs) parts) writing
 
 pub writing_step : (start now new : DatagramWriter) (all : Trees) (t : Tree) (rest : Trees)
     → IsWriting start now all (t & rest) → SameRoom now new → IsClosed new

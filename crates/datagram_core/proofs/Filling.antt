@@ -6,13 +6,12 @@ use Rattle.wire_spec.specs.Heads.{Head, datagram_tree}
 use Rattle.wire_spec.specs.Shapes.{Tree, Trees, none, ◌&◌}
 use Rattle.wire_spec.specs.Spelling.{padded, spell, spell_all}
 use Rattle.xdr_words.specs.declared.writer.OutFull.{OutFull}
-use Rattle.data_format.specs.Trees.{frame_trees}
+use Rattle.data_format.specs.Trees.{frame_tree, frame_trees}
 use Rattle.data_format.specs.Views.{FrameView}
-use Rattle.datagram_core.specs.Records.{record_tree, table_of, IsRecordOf}
-use Rattle.datagram_core.specs.declared.records.Record.{Record}
+use Rattle.datagram_views.specs.Records.{table_of}
 use Rattle.datagram_core.specs.Written.{Begun, and_then, joined, filled, begun_bytes, with_record, closed_sample}
 use Rattle.datagram_core.specs.Writers.{most_of, left_of, OfKind, IsOpen, IsOpenFor, HasBegun, Has, SameRoom, Adds}
-use Rattle.datagram_core.specs.declared.records.RecordKind.{RecordKind}
+use Rattle.datagram_views.specs.declared.records.RecordKind.{RecordKind}
 use Rattle.datagram_core.specs.declared.writer.DatagramWriter.{DatagramWriter}
 use Rattle.datagram_core.specs.declared.writer.OpenSample.{OpenSample}
 use Rattle.datagram_core.proofs.Sizes.{joined_size, one_more, inside, closed_least, closed_size}
@@ -92,17 +91,13 @@ filling_step start now new kind all t rest f room begun pushed = record {
   has = λ h samples s has empty. pushed h samples (filled s f.front) (f.has h samples s has empty);
 }
 
--- the next of the frames is this record
-pub filling_next : (start now : DatagramWriter) (kind first : RecordKind) (all : Trees) (old new : List FrameView) (r : Record)
-    → IsFilling start now first all (frame_trees (table_of first) old) → kind ≡ first
-    → ((f : FrameView) × (old ≡ f ∷ new) × IsRecordOf kind f r)
-    → IsFilling start now first all (record_tree r & frame_trees (table_of first) new)
-filling_next start now kind first all old new r filling same (f, parts, of) =
-    let T = table_of first in
-    let P : Trees → Type 0 = IsFilling start now first all in
-    let Q : RecordKind → Type 0 = λ k. IsRecordOf k f r in
-    let this : IsRecordOf first f r = subst Q same of in
-    subst P (ap (λ (fs : List FrameView). frame_trees T fs) parts ∙ ap (λ t. t & frame_trees T new) (sym this.value)) filling
+-- the next of the frames is this one
+pub filling_next : (start now : DatagramWriter) (kind : RecordKind) (all : Trees) (old new : List FrameView) (f : FrameView)
+    → IsFilling start now kind all (frame_trees (table_of kind) old) → old ≡ f ∷ new
+    → IsFilling start now kind all (frame_tree (table_of kind) f & frame_trees (table_of kind) new)
+filling_next start now kind all old new f filling parts =
+    let P : Trees → Type 0 = IsFilling start now kind all in
+    subst P (ap (λ (fs : List FrameView). frame_trees (table_of kind) fs) parts) filling
 
 -- how many bytes there are
 begun_size : (w : DatagramWriter) (h : Head) (ts : Trees) (s : Begun) → HasBegun w h ts s

@@ -1,14 +1,7 @@
-pub mod Whole
-pub mod Stand
-pub mod Rows
-pub mod RecordRows
-pub mod RecordFrames
-pub mod Counts
 pub mod Puts
 pub mod Writing
 pub mod Frames
 pub mod WriterSteps
-pub mod Again
 pub mod Sizes
 pub mod Filling
 pub mod Slices

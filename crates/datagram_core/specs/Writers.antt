@@ -4,9 +4,9 @@ use Rattle.wire_spec.specs.Heads.{Head, datagram_tree}
 use Rattle.wire_spec.specs.Shapes.{Trees, count_of}
 use Rattle.wire_spec.specs.Spelling.{spell, spell_all}
 use Rattle.xdr_words.specs.declared.writer.OutFull.{OutFull}
-use Rattle.datagram_core.specs.Heads.{head_trees}
+use Rattle.datagram_views.specs.Heads.{head_trees}
 use Rattle.datagram_core.specs.Written.{Begun, begun_bytes}
-use Rattle.datagram_core.specs.declared.records.RecordKind.{RecordKind}
+use Rattle.datagram_views.specs.declared.records.RecordKind.{RecordKind}
 use Rattle.datagram_core.specs.declared.writer.DatagramWriter.{DatagramWriter}
 use Rattle.datagram_core.specs.declared.writer.OpenSample.{OpenSample}
 

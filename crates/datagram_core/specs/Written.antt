@@ -1,11 +1,11 @@
 -- A datagram that is being written: what stands in it, and a sample that is begun.
-use Rattle.std.specs.Prelude.{◌≡◌, ◌≢◌, ℕ, ◌+◌, ◌≤◌, List, ◌++◌, length, take, drop}
+use Rattle.std.specs.Prelude.{◌≡◌, ℕ, ◌+◌, ◌≤◌, List, ◌++◌, length, take, drop}
 use Rattle.std.specs.Int.{w32, to_be_bytes}
 use Rattle.wire_spec.specs.Shapes.{Tree, known, Trees, none, ◌&◌}
 use Rattle.wire_spec.specs.Members.{with_last_tree}
 use Rattle.wire_spec.specs.Spelling.{spell_all}
 use Rattle.data_format.specs.declared.heads.Form.{Form}
-use Rattle.data_format.specs.declared.heads.Form.TheVariants.{Compact, Expanded}
+use Rattle.data_format.specs.declared.heads.Form.TheVariants.{Compact}
 use Rattle.data_format.specs.declared.heads.FlowHead.{FlowHead}
 use Rattle.data_format.specs.declared.heads.CountersHead.{CountersHead}
 use Rattle.data_format.specs.Samples.{IsFlowHead, IsCountersHead, flow_trees, counters_trees}
@@ -19,9 +19,10 @@ use Rattle.rec_extended.specs.RouteContents.{path_of, communities_of}
 use Rattle.rec_counters.specs.Contents as counters
 use Rattle.as_paths.specs.WordLists.{word_trees}
 use Rattle.as_paths.specs.Paths.{segment_trees}
-use Rattle.datagram_core.specs.Tables.{flow_records_read, counter_records_read}
-use Rattle.datagram_core.specs.declared.records.Record.{Record}
-use Rattle.datagram_core.specs.declared.records.Record.TheVariants.{
+use Rattle.datagram_views.specs.Kinds.{flow_format, counters_format, IsUnreadSample}
+use Rattle.datagram_views.specs.Tables.{flow_records_read, counter_records_read}
+use Rattle.datagram_views.specs.declared.records.Record.{Record}
+use Rattle.datagram_views.specs.declared.records.Record.TheVariants.{
   RawHeader,
   Ethernet,
   Ipv4,
@@ -34,10 +35,10 @@ use Rattle.datagram_core.specs.declared.records.Record.TheVariants.{
   VlanCounters,
   Other,
 }
-use Rattle.datagram_core.specs.declared.records.RecordKind.{RecordKind}
-use Rattle.datagram_core.specs.declared.records.RecordKind.TheVariants as kinds
-use Rattle.datagram_core.specs.declared.sample.Sample.{Sample}
-use Rattle.datagram_core.specs.declared.sample.Sample.TheVariants as samples
+use Rattle.datagram_views.specs.declared.records.RecordKind.{RecordKind}
+use Rattle.datagram_views.specs.declared.records.RecordKind.TheVariants as kinds
+use Rattle.datagram_views.specs.declared.sample.Sample.{Sample}
+use Rattle.datagram_views.specs.declared.sample.Sample.TheVariants as samples
 
 -- some values and one more
 abbrev pub and_then : Trees → Tree → Trees
@@ -54,14 +55,6 @@ pub record Begun : Type 0 where
   pub format : ℕ
   pub head : Trees
   pub records : Trees
-
-abbrev pub flow_format : Form → ℕ
-flow_format Compact = 1
-flow_format Expanded = 3
-
-abbrev pub counters_format : Form → ℕ
-counters_format Compact = 2
-counters_format Expanded = 4
 
 -- samples of these heads, without records
 abbrev pub begun_flow : Form → FlowHead → Begun
@@ -101,21 +94,6 @@ patch place piece x = take place x ++ piece ++ drop (place + length piece) x
 
 -- ---- records that are to be written
 
--- the format is none of those that are read by their fields
-abbrev pub IsUnread : RecordKind → ℕ → Type 0
-IsUnread kinds.Flow k = (k ≢ 1) × (k ≢ 2) × (k ≢ 3) × (k ≢ 4) × (k ≢ 1001) × (k ≢ 1002) × (k ≢ 1003)
-IsUnread kinds.Counters k = (k ≢ 1) × (k ≢ 2) × (k ≢ 5)
-IsUnread kinds.Unknown k = Unit {0}
-
--- the format is none of the samples that are read by their fields
-abbrev pub IsUnreadSample : ℕ → Type 0
-IsUnreadSample k = (k ≢ 1) × (k ≢ 2) × (k ≢ 3) × (k ≢ 4)
-
--- a sample that is kept as its frame has such a format
-abbrev pub IsUnreadOther : Sample → Type 0
-IsUnreadOther (samples.Other frame) = IsUnreadSample (format_word frame.format)
-IsUnreadOther _ = Unit {0}
-
 -- a sample as it is given: its head has its form, its records are sound, and what is kept as a frame isn't read
 abbrev pub IsWritten : Sample → Type 0
 IsWritten (samples.Flow s) = IsFlowHead Compact s.head × AllPass flow_records_read s.frames
@@ -123,21 +101,6 @@ IsWritten (samples.Counters s) = IsCountersHead Compact s.head × AllPass counte
 IsWritten (samples.FlowX s) = AllPass flow_records_read s.frames
 IsWritten (samples.CountersX s) = AllPass counter_records_read s.frames
 IsWritten (samples.Other frame) = IsFormat frame.format × IsUnreadSample (format_word frame.format)
-
--- samples of this kind have the record
-abbrev pub HasKind : RecordKind → Record → Type 0
-HasKind kinds.Flow (RawHeader r) = Unit {0}
-HasKind kinds.Flow (Ethernet r) = Unit {0}
-HasKind kinds.Flow (Ipv4 r) = Unit {0}
-HasKind kinds.Flow (Ipv6 r) = Unit {0}
-HasKind kinds.Flow (Switch r) = Unit {0}
-HasKind kinds.Flow (Router r) = Unit {0}
-HasKind kinds.Flow (Gateway r) = Unit {0}
-HasKind kinds.Counters (IfCounters r) = Unit {0}
-HasKind kinds.Counters (EthernetCounters r) = Unit {0}
-HasKind kinds.Counters (VlanCounters r) = Unit {0}
-HasKind kind (Other frame) = IsFormat frame.format × IsUnread kind (format_word frame.format)
-HasKind kind _ = ⊥
 
 -- each of its slices has at most 65,535 bytes
 abbrev pub SlicesFit : Record → Type 0

@@ -1,14 +1,14 @@
 ghost use Rattle.std.specs.Prelude.{◌≡◌, ◌+◌, ◌*◌, ◌%◌, ◌<◌, ◌≤◌, length, IfSome};
 ghost use Rattle.std.proofs.Props.{props};
 
-use crate::records::RecordKind;
+use crate::record_writing::{body_length, frame_length};
 use crate::writer_appends::{
     append_counters, append_flow, append_front, append_other, append_record, append_tail,
     patch_word,
 };
 use crate::writer_parts::{counters_length, flow_length, front_length};
-use crate::{DatagramHead, Record};
 use data_format::{CountersHead, FlowHead, Form, Format};
+use datagram_views::{DatagramHead, Record, RecordKind};
 use xdr_words::OutFull;
 
 /// The most bytes that a datagram has.
@@ -55,12 +55,13 @@ impl<'b> DatagramWriter<'b> {
     ghost use Rattle.wire_spec.specs.Spelling.{spell, padded};
     ghost use Rattle.data_format.specs.Samples.{IsFlowHead, IsCountersHead};
     ghost use Rattle.data_format.specs.Views.{IsFormat, format_word};
-    ghost use Rattle.datagram_core.specs.Heads.{head_of};
-    ghost use Rattle.datagram_core.specs.Records.{record_tree};
-    ghost use Rattle.datagram_core.specs.Written.{Begun, and_then, begun_flow, begun_counters, begun_bytes, with_record, closed_sample, HasKind, SlicesFit, IsUnreadSample};
+    ghost use Rattle.datagram_views.specs.Heads.{head_of};
+    ghost use Rattle.datagram_views.specs.Records.{record_tree};
+    ghost use Rattle.datagram_views.specs.Kinds.{HasKind, IsUnreadSample};
+    ghost use Rattle.datagram_core.specs.Written.{Begun, and_then, begun_flow, begun_counters, begun_bytes, with_record, closed_sample, SlicesFit};
     ghost use Rattle.datagram_core.specs.Writers.{so_far, left_of, IsOpen, IsClosed, IsOpenFor, Has, HasBegun, Adds};
-    ghost use Rattle.datagram_core.specs.declared.records.RecordKind.{RecordKind};
-    ghost use Rattle.datagram_core.specs.declared.records.RecordKind.TheVariants.{Flow, Counters};
+    ghost use Rattle.datagram_views.specs.declared.records.RecordKind.{RecordKind};
+    ghost use Rattle.datagram_views.specs.declared.records.RecordKind.TheVariants.{Flow, Counters};
 
     /// Writes this head and a count of 0 samples.
     pub fn begin(room: &'b mut [u8], head: &DatagramHead) -> Result<DatagramWriter<'b>, OutFull>
@@ -107,6 +108,7 @@ impl<'b> DatagramWriter<'b> {
 
     /// Begins a flow sample in this form: its format, its length, its head and a count of 0 records. No sample is begun,
     /// and in the compact form `compact` of the source and of both ports answers a word.
+    #[inline(always)]
     pub fn open_flow(&mut self, form: Form, head: &FlowHead) -> Result<(), OutFull>
         requires closed { IsClosed self.old }
         requires form { IsFlowHead form head.now }
@@ -142,6 +144,7 @@ impl<'b> DatagramWriter<'b> {
     /// Appends the whole frame of a record to the sample that is begun. A sample is begun that has records of this
     /// kind, or the record is `Other` with a format outside of the kind's table, whose enterprise is below 2^20 and
     /// whose number is below 2^12. Each slice in it has at most 65,535 bytes.
+    #[inline(always)]
     pub fn push_record(&mut self, item: &Record<'_>) -> Result<(), OutFull>
         requires open { IsOpen self.old }
         requires kind { (kind : RecordKind) → IsOpenFor kind self.old → HasKind kind item.now }
@@ -155,8 +158,8 @@ impl<'b> DatagramWriter<'b> {
         let Some(sample) = self.begun else {
             unreachable!()
         };
-        let size = item.body_length();
-        self.check_room(item.frame_length(size))?;
+        let size = body_length(item);
+        self.check_room(frame_length(item, size))?;
         self.len = append_record(self.room, self.len, item, size)?;
         self.begun = Some(OpenSample {
             records: sample.records + 1,
@@ -167,6 +170,7 @@ impl<'b> DatagramWriter<'b> {
 
     /// Closes the sample that is begun: appends these bytes behind its records, at most 65,535, and their padding. With
     /// no such bytes it can't be refused.
+    #[inline(always)]
     pub fn close_sample(&mut self, tail: &[u8]) -> Result<(), OutFull>
         requires open { IsOpen self.old }
         requires tail { length tail.now ≤ 65535 }
@@ -221,6 +225,7 @@ impl<'b> DatagramWriter<'b> {
         self.len
     }
     // That a piece of so many bytes fits.
+    #[inline(always)]
     fn check_room(&self, need: usize) -> Result<(), OutFull>
         ensures fits { IfOk result (λ u. need ≤ left_of self.now) }
         ensures need { IfErr result (λ e. e.need ≡ need) }
@@ -235,6 +240,7 @@ impl<'b> DatagramWriter<'b> {
     }
 
     // A sample is begun with the bytes up to `len`, the last four of which are the number of its records.
+    #[inline(always)]
     fn begin_sample(&mut self, kind: RecordKind, len: usize)
         requires start { self.old.len + 12 ≤ len }
         requires len { len ≤ min 65535 (length self.old.room.now) }

@@ -6,15 +6,15 @@ ghost use Rattle.wire_spec.specs.Shapes.{none, other};
 ghost use Rattle.wire_spec.specs.Spelling.{spell, padded};
 ghost use Rattle.data_format.specs.Samples.{IsFlowHead, IsCountersHead};
 ghost use Rattle.data_format.specs.Views.{IsFormat, format_word};
-ghost use Rattle.datagram_core.specs.Heads.{head_of};
-ghost use Rattle.datagram_core.specs.Records.{record_tree};
+ghost use Rattle.datagram_views.specs.Heads.{head_of};
+ghost use Rattle.datagram_views.specs.Records.{record_tree};
 ghost use Rattle.datagram_core.specs.Written.{begun_bytes, begun_flow, begun_counters, FormatFits, SlicesFit, record_body, Extends, patch};
 
 use crate::writer_parts::{
     front_length, write_counters, write_flow, write_front, write_other, write_record,
 };
-use crate::{DatagramHead, Record};
 use data_format::{CountersHead, FlowHead, Form, Format};
+use datagram_views::{DatagramHead, Record};
 use xdr_words::{Out, OutFull};
 
 /// The version, the head and a count of 0 samples, at the front of the room.
@@ -33,6 +33,7 @@ pub(crate) fn append_front(room: &mut [u8], head: &DatagramHead) -> usize
 }
 
 /// The format of a flow sample, a length of 0, its head, and a count of 0 records.
+#[inline(always)]
 pub(crate) fn append_flow(
     room: &mut [u8],
     len: usize,
@@ -65,6 +66,7 @@ pub(crate) fn append_counters(
 }
 
 /// The frame of a record whose body has this size in bytes.
+#[inline(always)]
 pub(crate) fn append_record(
     room: &mut [u8],
     len: usize,
@@ -101,6 +103,7 @@ pub(crate) fn append_other(
 }
 
 /// Bytes and their padding.
+#[inline(always)]
 pub(crate) fn append_tail(room: &mut [u8], len: usize, tail: &[u8]) -> Result<usize, OutFull>
     requires tail { length tail.now ≤ 65535 }
     requires room { len + length (padded tail.now) ≤ length room.old }
@@ -112,6 +115,7 @@ pub(crate) fn append_tail(room: &mut [u8], len: usize, tail: &[u8]) -> Result<us
 }
 
 /// A word in place of four bytes of the first `len`.
+#[inline(always)]
 pub(crate) fn patch_word(room: &mut [u8], len: usize, place: usize, value: u32)
     requires len { len ≤ length room.old }
     requires place { place + 4 ≤ len }

@@ -10,12 +10,13 @@ ghost use Rattle.data_format.specs.Samples.{IsFlowHead, IsCountersHead};
 ghost use Rattle.data_format.specs.declared.heads.FlowHead.{FlowHead};
 ghost use Rattle.data_format.specs.declared.heads.CountersHead.{CountersHead};
 ghost use Rattle.data_format.specs.Views.{IsFormat, format_word};
-ghost use Rattle.datagram_core.specs.Heads.{head_of};
-ghost use Rattle.datagram_core.specs.Records.{record_tree};
+ghost use Rattle.datagram_views.specs.Heads.{head_of};
+ghost use Rattle.datagram_views.specs.Records.{record_tree};
 ghost use Rattle.datagram_core.specs.Written.{begun_bytes, begun_flow, begun_counters, FormatFits, SlicesFit, record_body};
 
-use crate::{DatagramHead, Record};
+use crate::record_writing::{format_word_of, write_body};
 use data_format::{Address, CountersHead, FlowHead, Form, Format};
+use datagram_views::{DatagramHead, Record};
 use sample_expanded::{CountersSampleX, FlowSampleX};
 use sample_std::{CountersSample, FlowSample};
 use xdr_words::{Item, Out, OutFull, write_run};
@@ -31,6 +32,7 @@ pub(crate) fn front_length(head: &DatagramHead) -> usize
 }
 
 /// How many bytes an address has.
+#[inline(always)]
 pub(crate) fn address_length(address: &Address) -> usize
     ensures exact { result ≡ length (spell (address_tree (address_of address.now))) }
     ensures words { result % 4 ≡ 0 }
@@ -45,6 +47,7 @@ pub(crate) fn address_length(address: &Address) -> usize
 }
 
 /// How many bytes an array has.
+#[inline(always)]
 pub(crate) fn size_of_array<const N: usize>(bytes: &[u8; N]) -> usize
     ensures size { result ≡ N }
     ensures length { length bytes.now ≡ N }
@@ -69,6 +72,7 @@ pub(crate) fn write_front(out: &mut Out<'_>, head: &DatagramHead) -> Result<(), 
 }
 
 /// How many bytes the format, the length and the head of a flow sample have, with a count.
+#[inline(always)]
 pub(crate) fn flow_length(form: Form) -> usize
     ensures { (head : FlowHead) → length (begun_bytes (begun_flow form head)) ≡ result }
 {
@@ -89,6 +93,7 @@ pub(crate) fn counters_length(form: Form) -> usize
 }
 
 /// The format of a flow sample, a length of 0, its head, and a count of 0 records.
+#[inline(always)]
 pub(crate) fn write_flow(out: &mut Out<'_>, form: Form, head: &FlowHead) -> Result<(), OutFull>
     requires form { IsFlowHead form head.now }
     requires room { length (begun_bytes (begun_flow form head.now)) ≤ room_left out.old }
@@ -137,6 +142,7 @@ pub(crate) fn write_counters(
 }
 
 /// The frame of a record whose body has this size in bytes.
+#[inline(always)]
 pub(crate) fn write_record(out: &mut Out<'_>, item: &Record<'_>, size: usize) -> Result<(), OutFull>
     requires format { FormatFits item.now }
     requires slices { SlicesFit item.now }
@@ -145,9 +151,9 @@ pub(crate) fn write_record(out: &mut Out<'_>, item: &Record<'_>, size: usize) ->
     requires room { length (spell (record_tree item.now)) ≤ room_left out.old }
     ensures { Puts out.old out.new result (spell (record_tree item.now)) }
 {
-    out.put_word(item.format_word())?;
+    out.put_word(format_word_of(item))?;
     out.put_word(size as u32)?;
-    item.write_body(out)?;
+    write_body(item, out)?;
     out.put_padding(size)
 }
 

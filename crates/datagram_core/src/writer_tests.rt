@@ -1,10 +1,13 @@
-use crate::sample_tests::{HEAD, bytes_of};
-use crate::{Datagram, DatagramHead, DatagramWriter, Record};
+use crate::{Datagram, DatagramHead, DatagramWriter, Record, write_anew};
 use data_format::{Address, CountersHead, FlowHead, Form, Format, Frame, Port, SourceId};
 use rec_headers::RawHeader;
+use std::alloc::Global;
 use std::test::Fail;
 use wire_spec::Pad;
 use xdr_words::OutFull;
+
+// Version 5, agent 10.0.0.1, sub-agent 0, sequence number 1, uptime 1,000 ms.
+const HEAD: [u32; 6] = [5, 1, 0x0a00_0001, 0, 1, 1000];
 
 const AGENT: DatagramHead = DatagramHead {
     agent: Address::V4([10, 0, 0, 1]),
@@ -32,6 +35,20 @@ const UNKNOWN: Format = Format {
     enterprise: 4413,
     number: 7,
 };
+
+// Words, and then bytes.
+fn bytes_of(alloc: Global, parts: &[&[u32]], rest: &[&[u8]]) -> Result<Vec<u8>, Fail> {
+    let mut bytes = Vec::new(alloc);
+    for words in parts {
+        for word in words.iter() {
+            bytes.extend_from_slice(&word.to_be_bytes())?;
+        }
+    }
+    for part in rest {
+        bytes.extend_from_slice(part)?;
+    }
+    Ok(bytes)
+}
 
 #[test]
 fn a_datagram_without_samples_has_28_bytes(rt: HostRuntime) -> Result<(), Fail> {
@@ -149,7 +166,10 @@ fn a_datagram_is_written_anew(rt: HostRuntime) -> Result<(), Fail> {
     let bytes = bytes_of(rt.alloc(), &[&HEAD, &flow], &[&[255; 65], &[1, 2, 3]])?;
     let zeros = bytes_of(rt.alloc(), &[&HEAD, &flow], &[&[255; 65], &[0, 0, 0]])?;
     let mut room = [1; 160];
-    assert_eq!(rt; Datagram::parse(&bytes, Pad::Any)?.write(&mut room)?, 160);
+    assert_eq!(rt;
+        write_anew(&Datagram::parse(&bytes, Pad::Any)?, &mut room)?,
+        160
+    );
     assert_eq!(rt; room.as_slice(), zeros.as_slice());
     Ok(())
 }
@@ -184,11 +204,12 @@ fn tails_and_unknown_records_are_kept(rt: HostRuntime) -> Result<(), Fail> {
     assert_eq!(rt; bytes.len(), 108);
     let mut less = [1; 100];
     let mut room = [1; 108];
-    let len = Datagram::parse(&bytes, Pad::Any)?.write(&mut room)?;
+    let datagram = Datagram::parse(&bytes, Pad::Any)?;
+    let len = write_anew(&datagram, &mut room)?;
     assert_eq!(rt; len, 108);
     assert_eq!(rt; room.as_slice(), bytes.as_slice());
     assert_eq!(rt;
-        Datagram::parse(&bytes, Pad::Any)?.write(&mut less).err(),
+        write_anew(&datagram, &mut less).err(),
         Some(OutFull { need: 12, room: 4 })
     );
     Ok(())

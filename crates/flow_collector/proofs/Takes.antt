@@ -2,9 +2,9 @@
 use Rattle.std.proofs.Common.{◌≡◌, ◌∙◌, ℕ, ◌<◌, Bool, true, false, cond, nat_le, List, [], ◌∷◌, length, refl, sym, ap, subst, true≢false, arith}
 use Rattle.std.proofs.lemmas.Bool.{leb-true}
 use Rattle.data_format.specs.Trees.{frame_trees}
-use Rattle.datagram_core.specs.declared.head.DatagramHead.{DatagramHead}
-use Rattle.datagram_core.specs.Heads.{DatagramView, head_of}
-use Rattle.datagram_core.specs.Tables.{samples_read}
+use Rattle.datagram_views.specs.declared.head.DatagramHead.{DatagramHead}
+use Rattle.datagram_views.specs.Heads.{DatagramView, head_of}
+use Rattle.datagram_views.specs.Tables.{samples_read}
 use Rattle.wire_spec.specs.Heads.{Head}
 use Rattle.books_spec.specs.Items.{Datagram, Item, Got, stream_of, Limits}
 use Rattle.books_spec.specs.Books.{Taken, First, Repeat, Late, Unlisted, Malformed_entry, Spent, taken, taken_now, most_entries}

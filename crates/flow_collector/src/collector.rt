@@ -3,9 +3,9 @@ ghost use Rattle.std.specs.declared.result.Result.TheVariants.{Err};
 ghost use Rattle.std.specs.Option.{option_map};
 ghost use Rattle.data_format.specs.Trees.{frame_tree, frame_trees};
 ghost use Rattle.data_format.specs.Views.{FrameView};
-ghost use Rattle.datagram_core.specs.Samples.{IsSampleOf};
-ghost use Rattle.datagram_core.specs.Tables.{samples_read};
-ghost use Rattle.datagram_core.specs.Trees.{tree_of};
+ghost use Rattle.datagram_views.specs.SampleHeads.{IsHeadOf};
+ghost use Rattle.datagram_views.specs.Tables.{samples_read};
+ghost use Rattle.datagram_views.specs.Trees.{tree_of};
 ghost use Rattle.books_spec.specs.Items.{Datagram as Given, Item, Got, Malformed as Faulty, stream_of, Limits as Room};
 ghost use Rattle.books_spec.specs.Listing.{same_stream, among};
 ghost use Rattle.books_spec.specs.Books.{books, fault_after, taken, taken_now, totals, stream_boots, listed_streams, listed_sources, most_entries};
@@ -26,7 +26,7 @@ use crate::shown::{Shown, read_sample};
 use collector_tables::{SourceKey, SourceTable, StreamKey, StreamTable};
 use collector_views::{FirstFault, Limits, SourceView, StreamView, Totals};
 use data_format::Fault;
-use datagram_core::{Datagram, Sample, Samples};
+use datagram_views::{Datagram, SampleHead, Samples};
 use std::alloc::Global;
 use std::hash::RandomState;
 use std::marker::Model;
@@ -159,8 +159,8 @@ impl Collector {
             → StandsFor self.new l (Got (with_samples d (samples_in (frame_trees samples_read samples.entry))) ∷ items) }
     {
         let boot = self.boots(&stream);
-        while let Some(sample) = samples.next() {
-            self.enter_sample(stream, boot, &sample);
+        while let Some(head) = samples.next_head() {
+            self.enter_sample(stream, boot, &head);
         }
     }
 
@@ -173,17 +173,17 @@ impl Collector {
         self.streams.boots(stream)
     }
 
-    // Enters one sample more of the datagram, which is in this boot of its stream.
-    fn enter_sample(&mut self, stream: StreamKey, boot: u64, sample: &Sample<'_>)
+    // Enters one sample more of the datagram, by its head; it is in this boot of its stream.
+    fn enter_sample(&mut self, stream: StreamKey, boot: u64, head: &SampleHead)
         requires midway { Midway self.old stream 8190 }
         requires boot { (l : Room) (items : List Item) (d : Given) → Enters l items stream d
             → StandsFor self.old l (Got d ∷ items) → boot ≡ boot_number l items d }
         ensures stands { (l : Room) (items : List Item) (d : Given) (f : FrameView) → Enters l items stream d
-            → IsSampleOf f sample.now → StandsFor self.old l (Got d ∷ items)
+            → IsHeadOf f head.now → StandsFor self.old l (Got d ∷ items)
             → StandsFor self.new l (Got (with_sample d (sample_in (frame_tree samples_read f))) ∷ items) }
         ensures streams { self.new.streams ≡ self.old.streams }
     {
-        match read_sample(sample) {
+        match read_sample(head) {
             Some(shown) => self.enter(stream, boot, shown),
             None => self.totals.other += 1,
         }

@@ -1,13 +1,13 @@
 ghost use Rattle.std.specs.Prelude.{◌≡◌, Some};
 ghost use Rattle.data_format.specs.Views.{FrameView};
 ghost use Rattle.data_format.specs.Trees.{frame_tree};
-ghost use Rattle.datagram_core.specs.Samples.{IsSampleOf};
-ghost use Rattle.datagram_core.specs.Tables.{samples_read};
+ghost use Rattle.datagram_views.specs.SampleHeads.{IsHeadOf};
+ghost use Rattle.datagram_views.specs.Tables.{samples_read};
 ghost use Rattle.flow_collector.specs.Items.{sample_in};
 ghost use Rattle.flow_collector.specs.Shown.{sample_shown, flow_of, counters_of};
 
 use data_format::{CountersHead, FlowHead, SourceId};
-use datagram_core::Sample;
+use datagram_views::SampleHead;
 use stream_books::SampleReading;
 
 /// What a sample shows: its source within a stream, and its reading.
@@ -20,17 +20,15 @@ pub struct Shown {
     pub reading: SampleReading,
 }
 
-/// What a sample shows; `None` exactly where its format isn't read.
-pub fn read_sample(sample: &Sample<'_>) -> Option<Shown>
-    ensures { (f : FrameView) → IsSampleOf f sample.now
+/// What a sample of this head shows; `None` exactly where its format isn't read.
+pub fn read_sample(head: &SampleHead) -> Option<Shown>
+    ensures { (f : FrameView) → IsHeadOf f head.now
         → sample_shown result ≡ sample_in (frame_tree samples_read f) }
 {
-    match sample {
-        Sample::Flow(s) => Some(flow_shown(&s.head())),
-        Sample::Counters(s) => Some(counters_shown(&s.head())),
-        Sample::FlowX(s) => Some(flow_shown(&s.head())),
-        Sample::CountersX(s) => Some(counters_shown(&s.head())),
-        Sample::Other(_) => None,
+    match head {
+        SampleHead::Flow(flow) => Some(flow_shown(flow)),
+        SampleHead::Counters(counters) => Some(counters_shown(counters)),
+        SampleHead::Other => None,
     }
 }
 

@@ -1,6 +1,6 @@
 use crate::{Collector, LedgerView, Limits, OpenRefusal, Seeds, Taken};
 use data_format::{Fault, FaultKind, SourceId};
-use datagram_core::Datagram;
+use datagram_views::Datagram;
 use std::alloc::Global;
 use std::hash::RandomState;
 use std::random::RandomSource;

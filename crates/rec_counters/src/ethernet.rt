@@ -92,6 +92,7 @@ impl<'a> EthernetCounters<'a> {
     }
 
     /// The length of its body in bytes. The tail has at most 65,535 bytes.
+    #[inline(always)]
     pub fn length(&self) -> usize
         requires { length self.now.tail.now ≤ 65535 }
         ensures { result ≡ length (record_bytes (ethernet_content self.now)) }
@@ -111,6 +112,7 @@ impl<'a> EthernetCounters<'a> {
     }
 
     // The fields in the order of the wire.
+    #[inline(always)]
     fn items(&self) -> [Item<'_>; 13]
         ensures trees { Tree.structure (item_trees result) ≡ (ethernet_content self.now).0 }
         ensures fit { AllFit result }

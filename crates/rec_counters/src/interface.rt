@@ -110,6 +110,7 @@ impl<'a> IfCounters<'a> {
     }
 
     /// The length of its body in bytes. The tail has at most 65,535 bytes.
+    #[inline(always)]
     pub fn length(&self) -> usize
         requires { length self.now.tail.now ≤ 65535 }
         ensures { result ≡ length (record_bytes (interface_content self.now)) }
@@ -129,6 +130,7 @@ impl<'a> IfCounters<'a> {
     }
 
     // The fields in the order of the wire.
+    #[inline(always)]
     fn items(&self) -> [Item<'_>; 19]
         ensures trees { Tree.structure (item_trees result) ≡ (interface_content self.now).0 }
         ensures fit { AllFit result }

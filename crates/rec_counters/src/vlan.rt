@@ -71,6 +71,7 @@ impl<'a> VlanCounters<'a> {
     }
 
     /// The length of its body in bytes. The tail has at most 65,535 bytes.
+    #[inline(always)]
     pub fn length(&self) -> usize
         requires { length self.now.tail.now ≤ 65535 }
         ensures { result ≡ length (record_bytes (vlan_content self.now)) }
@@ -90,6 +91,7 @@ impl<'a> VlanCounters<'a> {
     }
 
     // The fields in the order of the wire.
+    #[inline(always)]
     fn items(&self) -> [Item<'_>; 6]
         ensures trees { Tree.structure (item_trees result) ≡ (vlan_content self.now).0 }
         ensures fit { AllFit result }

@@ -33,6 +33,7 @@ pub struct RouterRec<'a> {
 impl<'a> RouterRec<'a> {
     /// The record in a frame's body, whatever the frame's format; `pad` is how padding is read. `Short` at the first
     /// item that the body doesn't hold; `AddressType` at the first word where it is above 2. The place behind the body is below 2^32.
+    #[inline(always)]
     pub fn read(frame: Frame<'a>, pad: Pad) -> Result<RouterRec<'a>, Fault>
         requires { frame.at + length frame.body.now < 2 ^ 32 }
         ensures exact { Gives router_content (λ f. f) result (record_reading pad extended_router (body_of (frame_view frame.entry))) }
@@ -46,6 +47,7 @@ impl<'a> RouterRec<'a> {
     }
 
     // The same of bytes, the first of which stands at this place.
+    #[inline(always)]
     fn within(body: &'a [u8], at: usize, pad: Pad) -> Result<RouterRec<'a>, Fault>
         requires { at + length body.now < 2 ^ 32 }
         ensures exact { Gives router_content (λ f. f) result (record_reading pad extended_router (record { at = at; bytes = body.now })) }
@@ -61,6 +63,7 @@ impl<'a> RouterRec<'a> {
     }
 
     /// The length of its body in bytes. The tail has at most 65,535 bytes.
+    #[inline(always)]
     pub fn length(&self) -> usize
         requires { length self.now.tail.now ≤ 65535 }
         ensures { result ≡ length (record_bytes (router_content self.now)) }
@@ -80,6 +83,7 @@ impl<'a> RouterRec<'a> {
     }
 
     // The fields in the order of the wire.
+    #[inline(always)]
     fn items(&self) -> [Item<'_>; 4]
         ensures body { run_bytes result self.now.tail.now ≡ record_bytes (router_content self.now) }
         ensures fit { AllFit result }

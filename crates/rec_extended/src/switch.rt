@@ -35,6 +35,7 @@ pub struct SwitchRec<'a> {
 impl<'a> SwitchRec<'a> {
     /// The record in a frame's body, whatever the frame's format; `pad` is how padding is read. `Short` at the first
     /// field that the body doesn't hold. The place behind the body is below 2^32.
+    #[inline(always)]
     pub fn read(frame: Frame<'a>, pad: Pad) -> Result<SwitchRec<'a>, Fault>
         requires { frame.at + length frame.body.now < 2 ^ 32 }
         ensures exact { Gives switch_content (λ f. f) result (record_reading pad extended_switch (body_of (frame_view frame.entry))) }
@@ -48,6 +49,7 @@ impl<'a> SwitchRec<'a> {
     }
 
     // The same of bytes, the first of which stands at this place.
+    #[inline(always)]
     fn within(body: &'a [u8], at: usize, pad: Pad) -> Result<SwitchRec<'a>, Fault>
         requires { at + length body.now < 2 ^ 32 }
         ensures exact { Gives switch_content (λ f. f) result (record_reading pad extended_switch (record { at = at; bytes = body.now })) }
@@ -64,6 +66,7 @@ impl<'a> SwitchRec<'a> {
     }
 
     /// The length of its body in bytes. The tail has at most 65,535 bytes.
+    #[inline(always)]
     pub fn length(&self) -> usize
         requires { length self.now.tail.now ≤ 65535 }
         ensures { result ≡ length (record_bytes (switch_content self.now)) }
@@ -83,6 +86,7 @@ impl<'a> SwitchRec<'a> {
     }
 
     // The fields in the order of the wire.
+    #[inline(always)]
     fn items(&self) -> [Item<'_>; 4]
         ensures trees { Tree.structure (item_trees result) ≡ (switch_content self.now).0 }
         ensures fit { AllFit result }

@@ -8,6 +8,7 @@ ghost use Rattle.xdr_words.specs.Readers.{Reads, remaining};
 use xdr_words::{Cursor, Item, XdrFault};
 
 /// So many bytes and their padding.
+#[inline(always)]
 pub fn take_array<const N: usize>(cursor: &mut Cursor<'_>) -> Result<[u8; N], XdrFault>
     requires { N ≤ 65535 }
     ensures { Reads (λ v. v) fault_of cursor.old cursor.new result (fixed_at cursor.old.pad N (remaining cursor.old)) }
@@ -18,6 +19,7 @@ pub fn take_array<const N: usize>(cursor: &mut Cursor<'_>) -> Result<[u8; N], Xd
 }
 
 /// The bytes of an array as one item.
+#[inline(always)]
 pub fn fixed<const N: usize>(bytes: &[u8; N]) -> Item<'_>
     requires { N ≤ 65535 }
     ensures length { length bytes.now ≡ N }

@@ -45,6 +45,7 @@ impl<'a> Ipv6Rec<'a> {
     /// The record in a frame's body, whatever the frame's format; `pad` is how padding is read. `Short` at the
     /// first field, with its padding, that the body doesn't hold; `Pad` at its first padding byte that isn't zero, where
     /// zeros are asked for. The place behind the body is below 2^32.
+    #[inline(always)]
     pub fn read(frame: Frame<'a>, pad: Pad) -> Result<Ipv6Rec<'a>, Fault>
         requires { frame.at + length frame.body.now < 2 ^ 32 }
         ensures exact { Gives ipv6_content (λ f. f) result (record_reading pad ipv6_header (body_of (frame_view frame.entry))) }
@@ -58,6 +59,7 @@ impl<'a> Ipv6Rec<'a> {
     }
 
     // The same of bytes, the first of which stands at this place.
+    #[inline(always)]
     fn within(body: &'a [u8], at: usize, pad: Pad) -> Result<Ipv6Rec<'a>, Fault>
         requires { at + length body.now < 2 ^ 32 }
         ensures exact { Gives ipv6_content (λ f. f) result (record_reading pad ipv6_header (record { at = at; bytes = body.now })) }
@@ -78,6 +80,7 @@ impl<'a> Ipv6Rec<'a> {
     }
 
     /// The length of its body in bytes. The tail has at most 65,535 bytes.
+    #[inline(always)]
     pub fn length(&self) -> usize
         requires { length self.now.tail.now ≤ 65535 }
         ensures { result ≡ length (record_bytes (ipv6_content self.now)) }
@@ -97,6 +100,7 @@ impl<'a> Ipv6Rec<'a> {
     }
 
     // The fields in the order of the wire.
+    #[inline(always)]
     fn items(&self) -> [Item<'_>; 8]
         ensures trees { Tree.structure (item_trees result) ≡ (ipv6_content self.now).0 }
         ensures fit { AllFit result }

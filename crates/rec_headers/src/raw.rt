@@ -36,6 +36,7 @@ impl<'a> RawHeader<'a> {
     /// The record in a frame's body, whatever the frame's format; `pad` is how padding is read. `Short` at the
     /// first field, with its padding, that the body doesn't hold; `Pad` at its first padding byte that isn't zero, where
     /// zeros are asked for. The place behind the body is below 2^32.
+    #[inline(always)]
     pub fn read(frame: Frame<'a>, pad: Pad) -> Result<RawHeader<'a>, Fault>
         requires { frame.at + length frame.body.now < 2 ^ 32 }
         ensures exact { Gives raw_content (λ f. f) result (record_reading pad raw_header (body_of (frame_view frame.entry))) }
@@ -50,6 +51,7 @@ impl<'a> RawHeader<'a> {
     }
 
     // The same of bytes, the first of which stands at this place.
+    #[inline(always)]
     fn within(body: &'a [u8], at: usize, pad: Pad) -> Result<RawHeader<'a>, Fault>
         requires { at + length body.now < 2 ^ 32 }
         ensures exact { Gives raw_content (λ f. f) result (record_reading pad raw_header (record { at = at; bytes = body.now })) }
@@ -66,6 +68,7 @@ impl<'a> RawHeader<'a> {
     }
 
     /// The length of its body in bytes. The header and the tail have at most 65,535 bytes each.
+    #[inline(always)]
     pub fn length(&self) -> usize
         requires header { length self.now.header.now ≤ 65535 }
         requires tail { length self.now.tail.now ≤ 65535 }
@@ -87,6 +90,7 @@ impl<'a> RawHeader<'a> {
     }
 
     // The fields in the order of the wire.
+    #[inline(always)]
     fn items(&self) -> [Item<'_>; 4]
         requires { length self.now.header.now ≤ 65535 }
         ensures trees { Tree.structure (item_trees result) ≡ (raw_content self.now).0 }

@@ -1,5 +1,7 @@
 ghost use Rattle.std.specs.Prelude.{◌≡◌, ◌+◌, ◌<◌, ◌^◌, length, IfOk, IfErr};
+ghost use Rattle.std.specs.Result.{result_map_both};
 ghost use Rattle.wire_spec.specs.Bytes.{AreBytes};
+ghost use Rattle.wire_spec.specs.declared.pad.Pad.TheVariants.{Any};
 ghost use Rattle.wire_spec.specs.Fails.{Fails};
 ghost use Rattle.wire_spec.specs.Reading.{members_at};
 ghost use Rattle.wire_spec.specs.Shapes.{Table};
@@ -66,6 +68,7 @@ impl<'a> CountersSampleX<'a> {
     }
 
     // The same of bytes, the first of which stands at this place.
+    #[inline(always)]
     fn within<C: BodyCheck>(
         body: &'a [u8],
         at: usize,
@@ -78,10 +81,22 @@ impl<'a> CountersSampleX<'a> {
         ensures bytes { AreBytes body.now }
     {
         let mut cursor = Cursor::within(body, pad, at);
-        let head = read_head(&mut cursor)?;
+        let head = take_head(&mut cursor)?;
         let frames = Frames::read(&mut cursor, pad, check)?;
         let tail = cursor.rest();
         Ok(CountersSampleX { head, frames, tail })
+    }
+
+    /// The head alone of the sample in a frame's body, whatever the frame's format. `Short` at the first word that the
+    /// body doesn't hold. The place behind the body is below 2^32.
+    #[inline(always)]
+    pub fn read_head(frame: Frame<'_>) -> Result<CountersHead, Fault>
+        requires { frame.at + length frame.body.now < 2 ^ 32 }
+        ensures exact { Gives (counters_trees Expanded) (λ f. f) result
+            (result_map_both (λ x. x.0) (λ f. f) (members_at Any (counters_members Expanded) (body_of (frame_view frame.entry)))) }
+    {
+        let mut cursor = Cursor::within(frame.body, Pad::Any, frame.at);
+        take_head(&mut cursor)
     }
 
     /// What stands before the records.
@@ -106,6 +121,7 @@ impl<'a> CountersSampleX<'a> {
     }
 
     /// The head of a counters sample, without the count of its records, whole or not at all.
+    #[inline(always)]
     pub fn write_head(head: &CountersHead, out: &mut Out<'_>) -> Result<(), OutFull>
         ensures { Puts out.old out.new result (spell_all (counters_trees Expanded head.now)) }
     {
@@ -119,7 +135,8 @@ impl<'a> CountersSampleX<'a> {
 }
 
 // Sequence number and source, or the first fault.
-fn read_head(cursor: &mut Cursor<'_>) -> Result<CountersHead, Fault>
+#[inline(always)]
+fn take_head(cursor: &mut Cursor<'_>) -> Result<CountersHead, Fault>
     ensures { Reads (counters_trees Expanded) (λ f. f) cursor.old cursor.new result
         (members_at cursor.old.pad (counters_members Expanded) (remaining cursor.old)) }
 {

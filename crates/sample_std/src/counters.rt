@@ -1,5 +1,7 @@
 ghost use Rattle.std.specs.Prelude.{◌≡◌, ◌+◌, ◌<◌, ◌^◌, length, IfOk, IfErr};
+ghost use Rattle.std.specs.Result.{result_map_both};
 ghost use Rattle.wire_spec.specs.Bytes.{AreBytes};
+ghost use Rattle.wire_spec.specs.declared.pad.Pad.TheVariants.{Any};
 ghost use Rattle.wire_spec.specs.Fails.{Fails};
 ghost use Rattle.wire_spec.specs.Reading.{members_at};
 ghost use Rattle.wire_spec.specs.Shapes.{Table};
@@ -72,6 +74,7 @@ impl<'a> CountersSample<'a> {
     }
 
     // The same of bytes, the first of which stands at this place.
+    #[inline(always)]
     fn within<C: BodyCheck>(
         body: &'a [u8],
         at: usize,
@@ -85,10 +88,25 @@ impl<'a> CountersSample<'a> {
         ensures bytes { AreBytes body.now }
     {
         let mut cursor = Cursor::within(body, pad, at);
-        let head = read_head(&mut cursor)?;
+        let head = take_head(&mut cursor)?;
         let frames = Frames::read(&mut cursor, pad, check)?;
         let tail = cursor.rest();
         Ok(CountersSample { head, frames, tail })
+    }
+
+    /// The head alone of the sample in a frame's body, whatever the frame's format. `Short` at the first word that the
+    /// body doesn't hold. The place behind the body is below 2^32.
+    #[inline(always)]
+    pub fn read_head(frame: Frame<'_>) -> Result<CountersHead, Fault>
+        requires { frame.at + length frame.body.now < 2 ^ 32 }
+        ensures exact { Gives (counters_trees Compact) (λ f. f) result
+            (result_map_both (λ x. x.0) (λ f. f) (members_at Any (counters_members Compact) (body_of (frame_view frame.entry)))) }
+
+        // Each part of the source is within the range that one word has for it.
+        ensures form { IfOk result (λ h. IsCountersHead Compact h) }
+    {
+        let mut cursor = Cursor::within(frame.body, Pad::Any, frame.at);
+        take_head(&mut cursor)
     }
 
     /// What stands before the records. Each part of the source is within the range that one word has for it.
@@ -115,6 +133,7 @@ impl<'a> CountersSample<'a> {
 
     /// The head of a counters sample, without the count of its records, whole or not at all. `compact` of the source
     /// answers a word.
+    #[inline(always)]
     pub fn write_head(head: &CountersHead, out: &mut Out<'_>) -> Result<(), OutFull>
         requires { IsCountersHead Compact head.now }
         ensures { Puts out.old out.new result (spell_all (counters_trees Compact head.now)) }
@@ -126,7 +145,8 @@ impl<'a> CountersSample<'a> {
 }
 
 // Sequence number and source, or the first fault.
-fn read_head(cursor: &mut Cursor<'_>) -> Result<CountersHead, Fault>
+#[inline(always)]
+fn take_head(cursor: &mut Cursor<'_>) -> Result<CountersHead, Fault>
     ensures exact { Reads (counters_trees Compact) (λ f. f) cursor.old cursor.new result
         (members_at cursor.old.pad (counters_members Compact) (remaining cursor.old)) }
     ensures form { IfOk result (λ h. IsCountersHead Compact h) }

@@ -1,5 +1,7 @@
 ghost use Rattle.std.specs.Prelude.{◌≡◌, ◌+◌, ◌<◌, ◌^◌, length, IfOk, IfErr};
+ghost use Rattle.std.specs.Result.{result_map_both};
 ghost use Rattle.wire_spec.specs.Bytes.{AreBytes};
+ghost use Rattle.wire_spec.specs.declared.pad.Pad.TheVariants.{Any};
 ghost use Rattle.wire_spec.specs.Fails.{Fails};
 ghost use Rattle.wire_spec.specs.Reading.{members_at};
 ghost use Rattle.wire_spec.specs.Shapes.{Table};
@@ -72,6 +74,7 @@ impl<'a> FlowSample<'a> {
     }
 
     // The same of bytes, the first of which stands at this place.
+    #[inline(always)]
     fn within<C: BodyCheck>(
         body: &'a [u8],
         at: usize,
@@ -85,10 +88,25 @@ impl<'a> FlowSample<'a> {
         ensures bytes { AreBytes body.now }
     {
         let mut cursor = Cursor::within(body, pad, at);
-        let head = read_head(&mut cursor)?;
+        let head = take_head(&mut cursor)?;
         let frames = Frames::read(&mut cursor, pad, check)?;
         let tail = cursor.rest();
         Ok(FlowSample { head, frames, tail })
+    }
+
+    /// The head alone of the sample in a frame's body, whatever the frame's format. `Short` at the first word that the
+    /// body doesn't hold. The place behind the body is below 2^32.
+    #[inline(always)]
+    pub fn read_head(frame: Frame<'_>) -> Result<FlowHead, Fault>
+        requires { frame.at + length frame.body.now < 2 ^ 32 }
+        ensures exact { Gives (flow_trees Compact) (λ f. f) result
+            (result_map_both (λ x. x.0) (λ f. f) (members_at Any (flow_members Compact) (body_of (frame_view frame.entry)))) }
+
+        // Each part of the head is within the range that one word has for it.
+        ensures form { IfOk result (λ h. IsFlowHead Compact h) }
+    {
+        let mut cursor = Cursor::within(frame.body, Pad::Any, frame.at);
+        take_head(&mut cursor)
     }
 
     /// What stands before the records. Each part is within the range that one word has for it.
@@ -115,6 +133,7 @@ impl<'a> FlowSample<'a> {
 
     /// The head of a flow sample, without the count of its records, whole or not at all. `compact` of the source and
     /// of both ports answers a word.
+    #[inline(always)]
     pub fn write_head(head: &FlowHead, out: &mut Out<'_>) -> Result<(), OutFull>
         requires { IsFlowHead Compact head.now }
         ensures { Puts out.old out.new result (spell_all (flow_trees Compact head.now)) }
@@ -136,7 +155,8 @@ impl<'a> FlowSample<'a> {
 }
 
 // Sequence number, source, rate, pool, drops, input and output, or the first fault.
-fn read_head(cursor: &mut Cursor<'_>) -> Result<FlowHead, Fault>
+#[inline(always)]
+fn take_head(cursor: &mut Cursor<'_>) -> Result<FlowHead, Fault>
     ensures exact { Reads (flow_trees Compact) (λ f. f) cursor.old cursor.new result
         (members_at cursor.old.pad (flow_members Compact) (remaining cursor.old)) }
     ensures form { IfOk result (λ h. IsFlowHead Compact h) }

@@ -7,7 +7,7 @@ use Rattle.wire_spec.specs.Heads.{AgentAddress, unknown, ipv4, ipv6, Head, addre
 use Rattle.wire_spec.specs.Shapes.{Tree, Trees}
 use Rattle.wire_spec.specs.Whole.{FailsWhole, SpellsWhole, whole_reading}
 use Rattle.wire_spec.proofs.OneReading.{whole_bad, whole_refused, whole_taken}
-use Rattle.datagram_core.specs.Tables.{datagram_read}
+use Rattle.datagram_views.specs.Tables.{datagram_read}
 use Rattle.sflow_tool.specs.Items.{sound, malformed, address_in, head_in, item_from, item_of}
 
 address_again : (a : AgentAddress) → address_in (address_tree a) ≡ a

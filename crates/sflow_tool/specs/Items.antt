@@ -5,8 +5,8 @@ use Rattle.wire_spec.specs.declared.fault.Fault.{Fault}
 use Rattle.wire_spec.specs.Heads.{AgentAddress, unknown, ipv4, ipv6, Head}
 use Rattle.wire_spec.specs.Shapes.{Tree, word, fixed, structure, union, Trees, ◌&◌}
 use Rattle.wire_spec.specs.Whole.{whole_reading}
-use Rattle.datagram_core.specs.Heads.{head_of}
-use Rattle.datagram_core.specs.Tables.{datagram_read}
+use Rattle.datagram_views.specs.Heads.{head_of}
+use Rattle.datagram_views.specs.Tables.{datagram_read}
 use Rattle.sflow_tool.specs.declared.item.Item.{Item}
 use Rattle.sflow_tool.specs.declared.item.Item.TheVariants as items
 

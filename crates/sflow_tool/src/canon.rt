@@ -14,7 +14,8 @@ ghost use Rattle.sflow_tool.specs.declared.status.Status.TheVariants.{Done};
 use crate::Status;
 use crate::ending::{flush, new_room, status_of};
 use crate::walk::{EntryLines, Stop, put_entries};
-use datagram_core::Datagram;
+use datagram_core::write_anew;
+use datagram_views::Datagram;
 use sflow_io::{CaptureReader, Failed, Sink, Source};
 use std::alloc::Global;
 use text_lines::Page;
@@ -152,7 +153,7 @@ fn write_canonical(bytes: &[u8], room: &mut [u8]) -> Option<usize>
     let Ok(datagram) = Datagram::parse(bytes, Pad::Any) else {
         return None;
     };
-    match datagram.write(room) {
+    match write_anew(&datagram, room) {
         Ok(len) => Some(len),
         Err(_) => unreachable!(),
     }

@@ -2,7 +2,7 @@
 ghost use Rattle.std.specs.Prelude.{◌≡◌};
 ghost use Rattle.sflow_tool.specs.Items.{item_view, item_of};
 
-use datagram_core::{Datagram, DatagramHead};
+use datagram_views::{Datagram, DatagramHead};
 use wire_spec::{Fault, Pad};
 
 /// An entry of a capture: a datagram, or bytes that are none.

@@ -9,7 +9,7 @@ ghost use Rattle.wire_spec.specs.Heads.{Head, datagram_tree};
 ghost use Rattle.wire_spec.specs.Shapes.{Tree, Trees};
 ghost use Rattle.wire_spec.specs.Spelling.{spell};
 ghost use Rattle.wire_spec.specs.Whole.{FailsWhole, SpellsWhole};
-ghost use Rattle.datagram_core.specs.Tables.{datagram_read};
+ghost use Rattle.datagram_views.specs.Tables.{datagram_read};
 ghost use Rattle.sflow_tool.specs.Canons.{canon_text, canonical, canonical_entries, canonical_entry};
 ghost use Rattle.sflow_tool.specs.Checks.{faulty_count, is_faulty};
 ghost use Rattle.sflow_tool.specs.Items.{item_of, malformed, sound};

@@ -15,7 +15,7 @@ ghost use Rattle.sflow_tool.specs.Runs.{Runs};
 use crate::Status;
 use crate::ending::{new_room, status_of};
 use crate::report::write_report;
-use datagram_core::Datagram;
+use datagram_views::Datagram;
 use flow_collector::{Collector, Limits, OpenRefusal, Seeds};
 use sflow_io::{CaptureReader, Next, ReadRefusal, Sink, Source};
 use std::alloc::Global;

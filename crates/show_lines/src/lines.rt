@@ -1,13 +1,13 @@
 // The lines, from plain values.
 ghost use Rattle.std.specs.Prelude.{◌≡◌};
 ghost use Rattle.wire_spec.specs.FaultNames.{fault_name};
-ghost use Rattle.datagram_core.specs.Heads.{head_of};
+ghost use Rattle.datagram_views.specs.Heads.{head_of};
 ghost use Rattle.sflow_io.specs.Causes.{HasCause};
 ghost use Rattle.text_lines.specs.Pages.{Prints};
 ghost use Rattle.show_lines.specs.Lines.{entry_line, fault_line, datagram_line, flow_front, counters_front, frame_front, line_end};
 
 use data_format::{CountersHead, FlowHead, Format};
-use datagram_core::DatagramHead;
+use datagram_views::DatagramHead;
 use sflow_io::{Failed, Sink};
 use text_lines::{Page, Piece};
 use wire_spec::{Fault, FaultKind};

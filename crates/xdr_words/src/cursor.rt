@@ -41,6 +41,7 @@ impl<'a> Model for Cursor<'a> {
 
 impl<'a> Cursor<'a> {
     /// A cursor at place 0 of at most 2^32 - 1 bytes.
+    #[inline(always)]
     pub fn new(bytes: &'a [u8], pad: Pad) -> Cursor<'a>
         requires { length bytes.now < 2 ^ 32 }
         ensures { result ≡ record { pad = pad; at = 0; bytes = bytes.now } }
@@ -49,6 +50,7 @@ impl<'a> Cursor<'a> {
     }
 
     /// A cursor whose first byte has the place `at`, in bytes. The place behind the last byte is below 2^32.
+    #[inline(always)]
     pub fn within(bytes: &'a [u8], pad: Pad, at: usize) -> Cursor<'a>
         requires { at + length bytes.now < 2 ^ 32 }
         ensures { result ≡ record { pad = pad; at = at; bytes = bytes.now } }
@@ -61,6 +63,7 @@ impl<'a> Cursor<'a> {
     }
 
     // How padding is read.
+    #[inline(always)]
     fn pad(&self) -> Pad
         ensures { result ≡ self.now.pad }
     {
@@ -68,6 +71,7 @@ impl<'a> Cursor<'a> {
     }
 
     // Past so many bytes, behind which this is left.
+    #[inline(always)]
     fn advance(&mut self, count: usize, rest: &'a [u8])
         requires { self.old.at + count + length rest.now < 2 ^ 32 }
         ensures { self.new ≡ record self.old { at = self.old.at + count; bytes = rest.now } }
@@ -77,6 +81,7 @@ impl<'a> Cursor<'a> {
     }
 
     /// The same cursor once more.
+    #[inline(always)]
     pub fn fork(&self) -> Cursor<'a>
         ensures { result ≡ self.now }
     {
@@ -88,6 +93,7 @@ impl<'a> Cursor<'a> {
     }
 
     /// The place of the next byte. What is left are bytes, and the place behind the last of them is below 2^32.
+    #[inline(always)]
     pub fn at(&self) -> usize
         ensures place { result ≡ self.now.at }
         ensures bytes { AreBytes self.now.bytes }
@@ -97,6 +103,7 @@ impl<'a> Cursor<'a> {
     }
 
     /// How many bytes are left.
+    #[inline(always)]
     pub fn left(&self) -> usize
         ensures { result ≡ length self.now.bytes }
     {
@@ -104,6 +111,7 @@ impl<'a> Cursor<'a> {
     }
 
     /// The bytes that are left.
+    #[inline(always)]
     pub fn rest(&self) -> &'a [u8]
         ensures { result.now ≡ self.now.bytes }
     {
@@ -111,6 +119,7 @@ impl<'a> Cursor<'a> {
     }
 
     /// Four bytes, the most significant first (section 4.2). `Short` where fewer are left.
+    #[inline(always)]
     pub fn word(&mut self) -> Result<u32, XdrFault>
         ensures spelled { IfOk result (λ n. Passes (IsWord n) self.old self.new) }
         ensures fault { IfErr result (λ e. FailsItem 4 (remaining self.old) (fault_of e)) }
@@ -126,6 +135,7 @@ impl<'a> Cursor<'a> {
     }
 
     /// Eight bytes as one item, the most significant first (section 4.5). `Short` where fewer are left.
+    #[inline(always)]
     pub fn hyper(&mut self) -> Result<u64, XdrFault>
         ensures spelled { IfOk result (λ n. Passes (IsHyper n) self.old self.new) }
         ensures fault { IfErr result (λ e. FailsItem 8 (remaining self.old) (fault_of e)) }
@@ -142,6 +152,7 @@ impl<'a> Cursor<'a> {
 
     /// `n` bytes and their padding as one item (section 4.9). `Short` where they aren't all there; else `Pad` at
     /// the first padding byte that isn't zero, where zeros are asked for.
+    #[inline(always)]
     pub fn fixed(&mut self, n: usize) -> Result<&'a [u8], XdrFault>
         requires { n < 2 ^ 32 }
         ensures spelled { IfOk result (λ v. Passes (IsFixed self.old.pad n v.now) self.old self.new) }
@@ -154,6 +165,7 @@ impl<'a> Cursor<'a> {
 
     /// A length word, and then that many bytes with their padding as the next item (section 4.10). `Short` at the
     /// item that isn't all there; `Pad` as for `fixed`.
+    #[inline(always)]
     pub fn opaque(&mut self) -> Result<&'a [u8], XdrFault>
         ensures spelled { IfOk result (λ v. Passes (IsOpaque self.old.pad v.now) self.old self.new) }
         ensures fault { IfErr result (λ e. Fails self.old.pad opaque (remaining self.old) (fault_of e)) }
@@ -164,6 +176,7 @@ impl<'a> Cursor<'a> {
     }
 
     /// The count word of an array: how many values follow (section 4.13). `Short` where four bytes aren't left.
+    #[inline(always)]
     pub fn list_count(&mut self) -> Result<u32, XdrFault>
         ensures spelled { IfOk result (λ n. Passes (IsWord n) self.old self.new) }
         ensures fault { IfErr result (λ e. FailsItem 4 (remaining self.old) (fault_of e)) }
@@ -174,6 +187,7 @@ impl<'a> Cursor<'a> {
 
     /// A length word, and then that many bytes. It stops before their padding, which is there. `Short` at the length
     /// word, or behind it at the bytes with their padding, where that item isn't all there.
+    #[inline(always)]
     pub fn body(&mut self) -> Result<Body<'a>, XdrFault>
         ensures spelled { IfOk result (λ b. Passes (IsCounted b.bytes.now) self.old self.new) }
         ensures place { IfOk result (λ b. b.at ≡ self.old.at + 4) }
@@ -188,6 +202,7 @@ impl<'a> Cursor<'a> {
 
     /// The padding of a body of `length` bytes, which was read before it and is all there. `Pad` at the first padding
     /// byte that isn't zero, where zeros are asked for.
+    #[inline(always)]
     pub fn body_end(&mut self, length: usize) -> Result<(), XdrFault>
         requires below { length < 2 ^ 32 }
         requires there { padding_of length ≤ list.length self.old.bytes }
@@ -199,6 +214,7 @@ impl<'a> Cursor<'a> {
         self.take_padding(length)
     }
 
+    #[inline(always)]
     fn take_body(&mut self) -> Result<Body<'a>, XdrFault>
         ensures end { IfOk result (λ b. b.at + length b.bytes.now < 2 ^ 32) }
         ensures exact { Reads inside_of fault_of self.old self.new result (counted_body_at (remaining self.old)) }
@@ -215,6 +231,7 @@ impl<'a> Cursor<'a> {
         Ok(Body { bytes, at })
     }
 
+    #[inline(always)]
     fn take_padding(&mut self, length: usize) -> Result<(), XdrFault>
         requires below { length < 2 ^ 32 }
         requires there { padding_of length ≤ list.length self.old.bytes }
@@ -227,6 +244,7 @@ impl<'a> Cursor<'a> {
         Ok(())
     }
 
+    #[inline(always)]
     fn take_fixed(&mut self, n: usize) -> Result<&'a [u8], XdrFault>
         requires { n < 2 ^ 32 }
         ensures { Reads (λ v. v.now) fault_of self.old self.new result (fixed_at self.old.pad n (remaining self.old)) }
@@ -242,6 +260,7 @@ impl<'a> Cursor<'a> {
         Ok(value)
     }
 
+    #[inline(always)]
     fn take_opaque(&mut self) -> Result<&'a [u8], XdrFault>
         ensures { Reads (λ v. v.now) fault_of self.old self.new result (opaque_at self.old.pad (remaining self.old)) }
     {
@@ -265,6 +284,7 @@ impl<'a> Cursor<'a> {
 }
 
 /// The number of four bytes, which are the bytes of that number.
+#[inline(always)]
 fn word_of(bytes: &[u8]) -> u32
     requires { length bytes.now ≡ 4 }
     ensures value { result ≡ from_be_bytes w32 bytes.now }
@@ -274,6 +294,7 @@ fn word_of(bytes: &[u8]) -> u32
 }
 
 /// The number of eight bytes, which are the bytes of that number.
+#[inline(always)]
 fn hyper_of(bytes: &[u8]) -> u64
     requires { length bytes.now ≡ 8 }
     ensures value { result ≡ from_be_bytes w64 bytes.now }
@@ -283,6 +304,7 @@ fn hyper_of(bytes: &[u8]) -> u64
 }
 
 /// Where padding is zero, that each of these bytes is; the first of them stands at `at`.
+#[inline(always)]
 fn check_padding(pad: Pad, at: usize, bytes: &[u8]) -> Result<(), XdrFault>
     requires { at + length bytes.now < 2 ^ 32 }
     ensures { Tests fault_of result (padding_at pad at bytes.now) }

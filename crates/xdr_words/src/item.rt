@@ -1,6 +1,7 @@
 ghost use Rattle.std.specs.Prelude.{◌≡◌, ◌+◌, ◌≤◌, ◌++◌, length};
 ghost use Rattle.wire_spec.specs.Shapes.{Tree};
-ghost use Rattle.wire_spec.specs.Spelling.{spell, spell_all, padded};
+ghost use Rattle.std.specs.Int.{w64, to_be_bytes};
+ghost use Rattle.wire_spec.specs.Spelling.{spell, spell_all, padded, counted};
 ghost use Rattle.xdr_words.specs.ItemTrees.{item_tree, item_trees, Fits, AllFit, run_bytes};
 ghost use Rattle.xdr_words.specs.Written.{Puts, Appends, room_left};
 
@@ -21,6 +22,7 @@ pub enum Item<'a> {
 
 impl Item<'_> {
     /// How many bytes it has, with its padding.
+    #[inline(always)]
     pub fn length(&self) -> usize
         requires { Fits self.now }
         ensures exact { result ≡ length (spell (item_tree self.now)) }
@@ -35,6 +37,7 @@ impl Item<'_> {
     }
 
     /// The item, whole or not at all.
+    #[inline(always)]
     pub fn write(&self, out: &mut Out<'_>) -> Result<(), OutFull>
         requires { Fits self.now }
         ensures { Puts out.old out.new result (spell (item_tree self.now)) }
@@ -49,6 +52,7 @@ impl Item<'_> {
 }
 
 /// How many bytes a run of items has, with the bytes behind it. There are at most 65,535 of either.
+#[inline(always)]
 pub fn length_of_run(items: &[Item<'_>], tail: &[u8]) -> usize
     requires items { length items.now ≤ 65535 }
     requires fit { AllFit items.now }
@@ -63,6 +67,7 @@ pub fn length_of_run(items: &[Item<'_>], tail: &[u8]) -> usize
 }
 
 /// A run of items and the bytes behind it, whole or not at all. There are at most 65,535 of either.
+#[inline(always)]
 pub fn write_run(out: &mut Out<'_>, items: &[Item<'_>], tail: &[u8]) -> Result<(), OutFull>
     requires items { length items.now ≤ 65535 }
     requires fit { AllFit items.now }
@@ -74,22 +79,72 @@ pub fn write_run(out: &mut Out<'_>, items: &[Item<'_>], tail: &[u8]) -> Result<(
     if room < need {
         return Err(OutFull { need, room });
     }
-    write_each(out, items)?;
-    out.put_raw(tail)
+    out.put_run(items, tail)
 }
 
 // Items that fit together.
-fn write_each(out: &mut Out<'_>, items: &[Item<'_>]) -> Result<(), OutFull>
+#[inline(always)]
+pub(crate) fn write_each(out: &mut Out<'_>, items: &[Item<'_>])
     requires fit { AllFit items.now }
     requires room { length (spell_all (item_trees items.now)) ≤ room_left out.old }
-    ensures { Puts out.old out.new result (spell_all (item_trees items.now)) }
+    ensures { Appends out.old out.new (spell_all (item_trees items.now)) }
 {
     for item in items {
-        item.write(out)?;
+        append_item(out, item);
     }
-    Ok(())
 }
 
+// An item that fits. A word, of which there are most, is written in place.
+#[inline(always)]
+fn append_item(out: &mut Out<'_>, item: &Item<'_>)
+    requires fits { Fits item.now }
+    requires room { length (spell (item_tree item.now)) ≤ room_left out.old }
+    ensures { Appends out.old out.new (spell (item_tree item.now)) }
+{
+    match item {
+        Item::Word(value) => out.append_word(*value),
+        Item::Hyper(value) => append_hyper(out, *value),
+        Item::Fixed(bytes) => append_fixed(out, bytes),
+        Item::Opaque(bytes) => append_opaque(out, bytes),
+    }
+}
+
+#[inline(never)]
+fn append_hyper(out: &mut Out<'_>, value: u64)
+    requires room { length (to_be_bytes w64 value) ≤ room_left out.old }
+    ensures { Appends out.old out.new (to_be_bytes w64 value) }
+{
+    match out.put_hyper(value) {
+        Ok(()) => (),
+        Err(_) => unreachable!(),
+    }
+}
+
+#[inline(never)]
+fn append_fixed(out: &mut Out<'_>, bytes: &[u8])
+    requires most { length bytes.now ≤ 65535 }
+    requires room { length (padded bytes.now) ≤ room_left out.old }
+    ensures { Appends out.old out.new (padded bytes.now) }
+{
+    match out.put_fixed(bytes) {
+        Ok(()) => (),
+        Err(_) => unreachable!(),
+    }
+}
+
+#[inline(never)]
+fn append_opaque(out: &mut Out<'_>, bytes: &[u8])
+    requires most { length bytes.now ≤ 65535 }
+    requires room { length (counted bytes.now) ≤ room_left out.old }
+    ensures { Appends out.old out.new (counted bytes.now) }
+{
+    match out.put_opaque(bytes) {
+        Ok(()) => (),
+        Err(_) => unreachable!(),
+    }
+}
+
+#[inline(always)]
 fn padded_length(bytes: &[u8]) -> usize
     requires { length bytes.now ≤ 65535 }
     ensures exact { result ≡ length (padded bytes.now) }

@@ -1,6 +1,9 @@
-ghost use Rattle.std.specs.Prelude.{◌≡◌, ◌+◌, ◌<◌, ◌≤◌, ◌^◌, length, replicate};
+ghost use Rattle.std.specs.Prelude.{◌≡◌, ◌+◌, ◌<◌, ◌≤◌, ◌^◌, ◌++◌, length, replicate, take, IsOkAnd};
 ghost use Rattle.std.specs.Int.{w32, w64, to_be_bytes};
+ghost use Rattle.xdr_words.specs.ItemTrees.{AllFit, run_bytes};
 
+use crate::Item;
+use crate::item::write_each;
 use byteorder::{BigEndian, ByteOrder};
 
 /// A piece of `need` bytes doesn't fit in the `room` bytes that are left. Nothing of it is written.
@@ -25,9 +28,10 @@ pub struct Out<'b> {
 impl<'b> Out<'b> {
     ghost use Rattle.wire_spec.specs.Padding.{padding_of};
     ghost use Rattle.wire_spec.specs.Spelling.{padded, counted};
-    ghost use Rattle.xdr_words.specs.Written.{written, room_left, Begins, Resumes, Puts, Patches};
+    ghost use Rattle.xdr_words.specs.Written.{written, room_left, Begins, Resumes, Appends, Puts, Patches};
 
     /// A writer that has written nothing into this room.
+    #[inline(always)]
     pub fn new(room: &'b mut [u8]) -> Out<'b>
         ensures { Begins room.entry result }
     {
@@ -35,6 +39,7 @@ impl<'b> Out<'b> {
     }
 
     /// A writer that goes on behind the first `len` bytes of this room, which count as written.
+    #[inline(always)]
     pub fn resume(room: &'b mut [u8], len: usize) -> Out<'b>
         requires { len ≤ length room.old }
         ensures { Resumes room.entry len result }
@@ -43,6 +48,7 @@ impl<'b> Out<'b> {
     }
 
     /// How many bytes were written.
+    #[inline(always)]
     pub fn len(&self) -> usize
         ensures { result ≡ length (written self.now) }
     {
@@ -50,6 +56,7 @@ impl<'b> Out<'b> {
     }
 
     /// How many bytes still fit.
+    #[inline(always)]
     pub fn left(&self) -> usize
         ensures { result ≡ room_left self.now }
     {
@@ -57,12 +64,26 @@ impl<'b> Out<'b> {
     }
 
     /// Four bytes, the most significant first (section 4.2).
+    #[inline(always)]
     pub fn put_word(&mut self, value: u32) -> Result<(), OutFull>
         ensures { Puts self.old self.new result (to_be_bytes w32 value) }
     {
         let mut bytes = [0; 4];
         BigEndian::write_u32(&mut bytes, value);
         self.put_raw(&bytes)
+    }
+
+    /// The same, where there is room for it.
+    #[inline(always)]
+    pub(crate) fn append_word(&mut self, value: u32)
+        requires { 4 ≤ room_left self.old }
+        ensures { Appends self.old self.new (to_be_bytes w32 value) }
+    {
+        let mut bytes = [0; 4];
+        BigEndian::write_u32(&mut bytes, value);
+        let at = self.len;
+        self.room[at..at + 4].copy_from_slice(&bytes);
+        self.len += 4;
     }
 
     /// Eight bytes, the most significant first (section 4.5).
@@ -103,10 +124,14 @@ impl<'b> Out<'b> {
     }
 
     /// The bytes alone.
+    #[inline(always)]
     pub fn put_raw(&mut self, bytes: &[u8]) -> Result<(), OutFull>
         ensures { Puts self.old self.new result bytes.now }
     {
         let need = bytes.len();
+        if need == 0 {
+            return Ok(());
+        }
         let room = self.left();
         if room < need {
             return Err(OutFull { need, room });
@@ -114,6 +139,20 @@ impl<'b> Out<'b> {
         let at = self.len;
         self.room[at..at + need].copy_from_slice(bytes);
         self.len += need;
+        Ok(())
+    }
+
+    /// A run of items and the bytes behind it, for which there is room. There are at most 65,535 of either.
+    // The length is kept beside the room while they are written, and not behind a pointer.
+    #[inline(always)]
+    pub(crate) fn put_run(&mut self, items: &[Item<'_>], tail: &[u8]) -> Result<(), OutFull>
+        requires items { length items.now ≤ 65535 }
+        requires fit { AllFit items.now }
+        requires tail { length tail.now ≤ 65535 }
+        requires room { length (run_bytes items.now tail.now) ≤ room_left self.old }
+        ensures { Puts self.old self.new result (run_bytes items.now tail.now) }
+    {
+        self.len = put_behind(self.room, self.len, items, tail)?;
         Ok(())
     }
 
@@ -127,6 +166,7 @@ impl<'b> Out<'b> {
 
     /// Overwrites four bytes that were written, from `place` bytes behind the room's start on, by this word. They were
     /// all written before.
+    #[inline(always)]
     pub fn patch_word(&mut self, place: usize, value: u32)
         requires { place + 4 ≤ length (written self.old) }
         ensures { Patches self.old self.new place (to_be_bytes w32 value) }
@@ -135,4 +175,27 @@ impl<'b> Out<'b> {
         BigEndian::write_u32(&mut bytes, value);
         self.room[place..place + 4].copy_from_slice(&bytes);
     }
+}
+
+// A run of items and the bytes behind it, behind the first `len` bytes of a room that has room for them: how many bytes
+// stand there then.
+#[inline(always)]
+fn put_behind(
+    room: &mut [u8],
+    len: usize,
+    items: &[Item<'_>],
+    tail: &[u8],
+) -> Result<usize, OutFull>
+    requires items { length items.now ≤ 65535 }
+    requires fit { AllFit items.now }
+    requires tail { length tail.now ≤ 65535 }
+    requires len { len + length (run_bytes items.now tail.now) ≤ length room.old }
+    ensures len { IsOkAnd result (λ n. n ≡ len + length (run_bytes items.now tail.now)) }
+    ensures size { length room.new ≡ length room.old }
+    ensures whole { IsOkAnd result (λ n. take n room.new ≡ take len room.old ++ run_bytes items.now tail.now) }
+{
+    let mut out = Out::resume(room, len);
+    write_each(&mut out, items);
+    out.put_raw(tail)?;
+    Ok(out.len())
 }

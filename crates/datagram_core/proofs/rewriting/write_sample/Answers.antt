@@ -5,9 +5,9 @@ use Rattle.data_format.specs.declared.heads.CountersHead.{CountersHead}
 use Rattle.data_format.specs.Trees.{frame_trees}
 use Rattle.data_format.specs.Views.{format_word}
 use Rattle.wire_spec.specs.Shapes.{other}
-use Rattle.datagram_core.specs.Records.{table_of}
-use Rattle.datagram_core.specs.Samples.{sample_tree}
-use Rattle.datagram_core.specs.Tables.{flow_records_read, counter_records_read}
+use Rattle.datagram_views.specs.Records.{table_of}
+use Rattle.datagram_views.specs.Samples.{sample_tree}
+use Rattle.datagram_views.specs.Tables.{flow_records_read, counter_records_read}
 use Rattle.datagram_core.specs.Written.{begun_flow, begun_counters, begun_bytes, filled, closed_sample}
 use Rattle.datagram_core.specs.Writers.{left_of}
 use Rattle.datagram_core.proofs.Filling.{front_full, kept_full, has_same, full_same, if_err, adds_room}

@@ -9,5 +9,5 @@ returns c =
     let First : ℕ → Type 0 = λ k. Appends c.args.out.now c.put_word.new.self (to_be_bytes w32 k) in
     frame_written c.args.item.now c.args.size c.args.out.now c.put_word.new.self c.put_word-2.new.self c.write_body.new.out
     c.put_padding.new.self c.put_padding.result c.requires.size c.requires.room
-    (subst First c.format_word.ensures c.in_ok-put_word.ensures) c.in_ok-put_word-2.ensures c.in_ok-write_body.ensures
+    (subst First c.format_word_of.ensures c.in_ok-put_word.ensures) c.in_ok-put_word-2.ensures c.in_ok-write_body.ensures
     c.put_padding.ensures

@@ -1,7 +1,6 @@
 -- The bytes so far are counted: those of the items that are left are the rest.
-use Rattle.std.proofs.Common.{◌≡◌, ◌+◌, ◌*◌, ◌≤◌, ◌++◌, length}
-use Rattle.wire_spec.specs.Spelling.{spell_all}
-use Rattle.xdr_words.specs.ItemTrees.{item_trees, run_bytes}
+use Rattle.std.proofs.Common.{◌≡◌, ◌+◌, ◌*◌, ◌≤◌, length}
+use Rattle.xdr_words.specs.ItemTrees.{run_bytes}
 use Rattle.xdr_words.proofs.Runs.{from_index}
 use Rattle.xdr_words.proofs.item.length_of_run.Given as goal
 

@@ -1,8 +1,7 @@
-use Rattle.std.proofs.Common.{◌≡◌, ◌∙◌, true, false, List, length, sym, ap, subst, true≢false}
+use Rattle.std.proofs.Common.{◌≡◌, ◌∙◌, false, List, sym, subst, true≢false}
 use Rattle.books_spec.specs.Items.{Stream}
 use Rattle.books_spec.specs.Listing.{same_stream, among}
 use Rattle.collector_tables.specs.Keys.{stream_in}
-use Rattle.collector_tables.specs.Tables.{keys_in}
 use Rattle.collector_tables.proofs.StreamSteps.{boots-at}
 use Rattle.collector_tables.proofs.streams.StreamTable.boots.Goals as goal
 

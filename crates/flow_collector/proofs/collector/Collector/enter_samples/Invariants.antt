@@ -3,10 +3,10 @@ use Rattle.std.proofs.Common.{length}
 use Rattle.flow_collector.proofs.SoFar.{SoFar}
 use Rattle.flow_collector.proofs.collector.Collector.enter_samples.Given as goal
 
-abbrev pub invariant-loop-sample : goal.invariant-loop-sample
-invariant-loop-sample l = record {
+abbrev pub invariant-loop-head : goal.invariant-loop-head
+invariant-loop-head l = record {
   so_far : SoFar l.initial.self l.self l.initial.stream l.initial.samples l.samples;
 }
 
-abbrev pub decreases-loop-sample : goal.decreases-loop-sample
-decreases-loop-sample l = length l.samples
+abbrev pub decreases-loop-head : goal.decreases-loop-head
+decreases-loop-head l = length l.samples
