@@ -1,5 +1,6 @@
 #!/usr/bin/env python3
-"""Times a command over a capture beside `wc` and a plain copy: the best of three runs of each, all in one go.
+"""Times a command over a capture beside `wc` and a plain copy: the best of three runs of each, all in one go. The
+command is timed twice, with its output kept in memory, as the copy's is, and with its output dropped, as a walk has none.
 
     bench/measure.py CAPTURE COPY COMMAND [WALK]
 
@@ -66,13 +67,14 @@ def main():
     size, count = os.path.getsize(capture), datagrams_in(capture)
     print(f"{capture}: {size:,} bytes, {count:,} datagrams")
     rows = [("cat | wc -c", "cat | wc -c"), ("copy", f"dd bs=64k of='{copy}' 2> /dev/null"), (command, command)]
+    rows += [("its output dropped", f"{command} > /dev/null")]
     rows += [("C walk", f"'{path}'") for path in walk]
     times = {name: seconds(line, capture, output) for name, line in rows}
     print(f"{'':24}{'s':>8}{'MB/s':>10}{'datagrams/s':>14}{'of the copy':>13}{'of the walk' if walk else '':>13}")
     for name, took in times.items():
         beside = f"{times['C walk'] / took:13.2f}" if walk else ""
         print(f"{name:24}{took:8.3f}{size / took / 1e6:10.0f}{count / took:14,.0f}{times['copy'] / took:13.2f}{beside}")
-    print(f"cost of a datagram: {1e9 * times[command] / count:,.0f} ns")
+    print(f"cost of a datagram: {1e9 * times['its output dropped'] / count:,.0f} ns")
     print(f"peak resident memory of `{command}`: {peak_memory(command, capture, output):,} KiB")
 
 
