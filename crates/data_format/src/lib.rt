@@ -12,6 +12,7 @@ mod laws;
 mod mac;
 mod part_laws;
 mod port;
+mod record_body;
 mod source;
 
 pub use address::Address;
@@ -24,5 +25,6 @@ pub use laws::{one_head_of_a_sample, ranges_within_ranges, samples_over_all_reco
 pub use mac::Mac;
 pub use part_laws::parts_within_ranges;
 pub use port::Port;
+pub use record_body::RecordBody;
 pub use source::SourceId;
 pub use wire_spec::{Fault, FaultKind};
