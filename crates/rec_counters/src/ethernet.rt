@@ -1,19 +1,8 @@
-ghost use Rattle.std.specs.Prelude.{◌≡◌, ◌+◌, ◌<◌, ◌≤◌, ◌^◌, length, IfOk, IfErr};
-ghost use Rattle.wire_spec.specs.Bytes.{AreBytes};
-ghost use Rattle.wire_spec.specs.Fails.{Fails};
-ghost use Rattle.wire_spec.specs.Shapes.{Tree};
-ghost use Rattle.wire_spec.specs.Spelling.{IsLawful};
 ghost use Rattle.wire_spec.specs.Tables.{ethernet_counters};
-ghost use Rattle.wire_spec.specs.Whole.{SpellsFront};
-ghost use Rattle.xdr_words.specs.ItemTrees.{item_trees, AllFit};
-ghost use Rattle.xdr_words.specs.Readers.{Gives};
-ghost use Rattle.xdr_words.specs.Written.{Puts};
-ghost use Rattle.data_format.specs.Ranges.{EndsWith};
-ghost use Rattle.data_format.specs.Records.{record_reading, record_bytes, IsReadFrom};
-ghost use Rattle.data_format.specs.Views.{body_of, frame_view};
+ghost use Rattle.data_format.specs.Records.{AreFieldsOf};
 ghost use Rattle.rec_counters.specs.Contents.{ethernet_content};
 
-use data_format::{Fault, Frame};
+use data_format::{Fault, RecordBody};
 use wire_spec::Pad;
 use xdr_words::{Cursor, Item, Out, OutFull, length_of_run, write_run};
 
@@ -51,27 +40,20 @@ pub struct EthernetCounters<'a> {
     pub tail: &'a [u8],
 }
 
-impl<'a> EthernetCounters<'a> {
-    /// The record in a frame's body, whatever the frame's format; `pad` is how padding is read. `Short` at the first
-    /// field that the body doesn't hold. The place behind the body is below 2^32.
-    pub fn read(frame: Frame<'a>, pad: Pad) -> Result<EthernetCounters<'a>, Fault>
-        requires { frame.at + length frame.body.now < 2 ^ 32 }
-        ensures exact { Gives ethernet_content (λ f. f) result (record_reading pad ethernet_counters (body_of (frame_view frame.entry))) }
-        ensures spelled { IfOk result (λ r. SpellsFront pad ethernet_counters frame.entry.body.now (ethernet_content r)) }
-        ensures fault { IfErr result (λ f. Fails pad ethernet_counters (body_of (frame_view frame.entry)) f) }
+impl<'a> RecordBody<'a> for EthernetCounters<'a> {
+    ghost use Rattle.std.specs.Prelude.{◌≤◌, length};
+    ghost use Rattle.wire_spec.specs.Tables.{ethernet_counters};
+    ghost use Rattle.rec_counters.specs.Contents.{ethernet_content};
 
-        // The tail is the rest of the body.
-        ensures tail { IfOk result (λ r. EndsWith frame.entry.body.now r.tail.now) }
-    {
-        EthernetCounters::within(frame.body, frame.at, pad)
-    }
+    ghost shape = { ethernet_counters };
 
-    // The same of bytes, the first of which stands at this place.
-    fn within(body: &'a [u8], at: usize, pad: Pad) -> Result<EthernetCounters<'a>, Fault>
-        requires { at + length body.now < 2 ^ 32 }
-        ensures exact { Gives ethernet_content (λ f. f) result (record_reading pad ethernet_counters (record { at = at; bytes = body.now })) }
-        ensures bytes { AreBytes body.now }
-    {
+    ghost content = { ethernet_content };
+
+    ghost is_short = { λ r. length r.tail.now ≤ 65535 };
+
+    ghost has_slices = { λ _ _. Unit {0} };
+
+    fn within(body: &'a [u8], at: usize, pad: Pad) -> Result<EthernetCounters<'a>, Fault> {
         let mut cursor = Cursor::within(body, pad, at);
         Ok(EthernetCounters {
             alignment_errors: cursor.word()?,
@@ -91,32 +73,21 @@ impl<'a> EthernetCounters<'a> {
         })
     }
 
-    /// The length of its body in bytes. The tail has at most 65,535 bytes.
     #[inline(always)]
-    pub fn length(&self) -> usize
-        requires { length self.now.tail.now ≤ 65535 }
-        ensures { result ≡ length (record_bytes (ethernet_content self.now)) }
-    {
+    fn length(&self) -> usize {
         length_of_run(&self.items(), self.tail)
     }
 
-    /// Its body, whole or not at all. The tail has at most 65,535 bytes.
-    pub fn write(&self, out: &mut Out<'_>) -> Result<(), OutFull>
-        requires { length self.now.tail.now ≤ 65535 }
-        ensures written { Puts out.old out.new result (record_bytes (ethernet_content self.now)) }
-
-        // Wherever this body stands and however padding is read, the record is read from it again.
-        ensures again { IsReadFrom ethernet_counters (record_bytes (ethernet_content self.now)) (ethernet_content self.now) }
-    {
+    fn put(&self, out: &mut Out<'_>) -> Result<(), OutFull> {
         write_run(out, &self.items(), self.tail)
     }
+}
 
+impl<'a> EthernetCounters<'a> {
     // The fields in the order of the wire.
     #[inline(always)]
     fn items(&self) -> [Item<'_>; 13]
-        ensures trees { Tree.structure (item_trees result) ≡ (ethernet_content self.now).0 }
-        ensures fit { AllFit result }
-        ensures lawful { IsLawful ethernet_counters (ethernet_content self.now).0 }
+        ensures { AreFieldsOf ethernet_counters (ethernet_content self.now) result }
     {
         [
             Item::Word(self.alignment_errors),
