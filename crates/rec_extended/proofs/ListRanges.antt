@@ -1,14 +1,18 @@
 -- Where the lists of a gateway stand in the body that it was read from.
 use Rattle.std.proofs.Common.{◌≡◌, ℕ, List, [], ◌∷◌, ◌++◌, length, Result, Ok, Err, ap, subst, ◌∙◌, append_assoc, inl, inr, arith}
 use Rattle.std.specs.Prelude.{IfOk}
+use Rattle.std.proofs.lemmas.List.{length-append}
 use Rattle.std.specs.Int.{w32, to_be_bytes}
 use Rattle.wire_spec.specs.declared.pad.Pad.{Pad}
 use Rattle.wire_spec.specs.declared.fault.Fault.{Fault}
 use Rattle.wire_spec.specs.Shapes.{word, array, empty, row, Tree, count_of}
 use Rattle.wire_spec.specs.Spells.{Each, Spells, SpellsRow}
 use Rattle.wire_spec.specs.Spelling.{spell, spell_all}
-use Rattle.wire_spec.specs.Tables.{path_segment, extended_gateway}
+use Rattle.wire_spec.specs.Tables.{agent_address, path_segment, extended_gateway}
+use Rattle.wire_spec.specs.Heads.{address_tree}
 use Rattle.wire_spec.specs.Whole.{SpellsFront}
+use Rattle.wire_spec.proofs.Spellings.{spelled_length}
+use Rattle.data_format.specs.Addresses.{address_of}
 use Rattle.data_format.specs.Ranges.{IsRange}
 use Rattle.data_format.specs.Views.{FrameView}
 use Rattle.data_format.proofs.Ranges.{all_ranges}
@@ -16,7 +20,14 @@ use Rattle.as_paths.specs.declared.segment.Segment.{Segment}
 use Rattle.as_paths.specs.Paths.{kind_word, segment_tree, segment_trees}
 use Rattle.as_paths.specs.WordLists.{word_trees}
 use Rattle.rec_extended.specs.declared.gateway.GatewayRec.{GatewayRec}
-use Rattle.rec_extended.specs.RouteContents.{gateway_content, path_of, communities_of, HasLists}
+use Rattle.rec_extended.specs.RouteContents.{
+  gateway_content,
+  path_of,
+  communities_of,
+  place_of_path,
+  place_of_communities,
+  HasLists,
+}
 
 -- ---- words have no padding, so their spelling is the one
 
@@ -53,12 +64,12 @@ segments_alike p (s ∷ xs) a (x, y, one, more, parts) =
 
 -- ---- where they stand
 
-part_is_somewhere : (whole front part back named : List ℕ) → whole ≡ front ++ (part ++ back) → part ≡ named
-    → (at : ℕ) × IsRange whole at named
-part_is_somewhere whole front part back named parts same =
-    let f : FrameView = record { format = 0; body = part; at = length front } in
-    let P : List ℕ → Type 0 = λ t. (at : ℕ) × IsRange whole at t in
-    subst P same (length front, (all_ranges whole (f ∷ []) ((front, back, parts, omega arith), tt)).0)
+part_stands : (whole front part back named : List ℕ) (n : ℕ) → whole ≡ front ++ (part ++ back) → part ≡ named
+    → length front ≡ n → IsRange whole n named
+part_stands whole front part back named n parts same len =
+    let f : FrameView = record { format = 0; body = part; at = n } in
+    let P : List ℕ → Type 0 = IsRange whole n in
+    subst P same (all_ranges whole (f ∷ []) ((front, back, parts, omega (arith, len)), tt)).0
 
 lists_stand : (p : Pad) (body : List ℕ) (r : GatewayRec) → SpellsFront p extended_gateway body (gateway_content r)
     → HasLists body r
@@ -66,11 +77,45 @@ lists_stand p body r (fields, tail, (a, r1, address, (w1, r2, one, (w2, r3, two,
     let to_path : body ≡ (a ++ (w1 ++ (w2 ++ (w3 ++ n)))) ++ (path ++ (r5 ++ tail)) =
     rw (e0, e1, e2, e3, e4, e5, f1) (simp append_assoc) in
     let to_numbers : body ≡ (a ++ (w1 ++ (w2 ++ (w3 ++ (l ++ k))))) ++ (numbers ++ (r6 ++ tail)) =
-    rw (e0, e1, e2, e3, e4, e5, e6, f2) (simp append_assoc) in (
-      part_is_somewhere body (a ++ (w1 ++ (w2 ++ (w3 ++ n)))) path (r5 ++ tail) (spell_all (segment_trees (path_of r)))
-          to_path (segments_alike p (path_of r) path segments),
-      part_is_somewhere body (a ++ (w1 ++ (w2 ++ (w3 ++ (l ++ k))))) numbers (r6 ++ tail)
-          (spell_all (word_trees (communities_of r))) to_numbers (words_alike p (communities_of r) numbers words),
+    rw (e0, e1, e2, e3, e4, e5, e6, f2) (simp append_assoc) in
+    let hop = spelled_length p agent_address (address_tree (address_of r.nexthop)) a address in
+    let path_same = segments_alike p (path_of r) path segments in
+    let before_path : length (a ++ (w1 ++ (w2 ++ (w3 ++ n)))) ≡ place_of_path r =
+    omega (
+      arith,
+      hop,
+      length-append a (w1 ++ (w2 ++ (w3 ++ n))),
+      length-append w1 (w2 ++ (w3 ++ n)),
+      length-append w2 (w3 ++ n),
+      length-append w3 n,
+      ap length one.1,
+      ap length two.1,
+      ap length three.1,
+      ap length count.1,
+    ) in
+    let before_numbers : length (a ++ (w1 ++ (w2 ++ (w3 ++ (l ++ k))))) ≡ place_of_communities r =
+    omega (
+      arith,
+      hop,
+      length-append a (w1 ++ (w2 ++ (w3 ++ (l ++ k)))),
+      length-append w1 (w2 ++ (w3 ++ (l ++ k))),
+      length-append w2 (w3 ++ (l ++ k)),
+      length-append w3 (l ++ k),
+      length-append l k,
+      length-append n path,
+      ap length f1,
+      ap length path_same,
+      ap length one.1,
+      ap length two.1,
+      ap length three.1,
+      ap length count.1,
+      ap length how_many.1,
+    ) in (
+      part_stands body (a ++ (w1 ++ (w2 ++ (w3 ++ n)))) path (r5 ++ tail) (spell_all (segment_trees (path_of r)))
+          (place_of_path r) to_path path_same before_path,
+      part_stands body (a ++ (w1 ++ (w2 ++ (w3 ++ (l ++ k))))) numbers (r6 ++ tail)
+          (spell_all (word_trees (communities_of r))) (place_of_communities r) to_numbers
+          (words_alike p (communities_of r) numbers words) before_numbers,
     )
 
 pub given_lists : (p : Pad) (body : List ℕ) (r : Result GatewayRec Fault)

@@ -1,8 +1,8 @@
 -- What contracts see of the records of routes.
-use Rattle.std.specs.Prelude.{ℕ, List}
+use Rattle.std.specs.Prelude.{ℕ, ◌+◌, ◌≤◌, List, length}
 use Rattle.wire_spec.specs.Shapes.{Tree, none, ◌&◌}
 use Rattle.wire_spec.specs.Heads.{address_tree}
-use Rattle.wire_spec.specs.Spelling.{spell_all}
+use Rattle.wire_spec.specs.Spelling.{spell, spell_all}
 use Rattle.data_format.specs.Addresses.{address_of}
 use Rattle.data_format.specs.Ranges.{IsRange}
 use Rattle.data_format.specs.Records.{Content}
@@ -49,7 +49,20 @@ gateway_parts h path communities tail = (
 abbrev pub gateway_content : GatewayRec → Content
 gateway_content r = gateway_parts (head_of r) (path_of r) (communities_of r) r.tail.now
 
--- the segments and the communities are ranges of the body
+-- the bytes of the path, and those of the communities, are at most 65,535
+abbrev pub AreShortLists : GatewayRec → Type 0
+AreShortLists r = (length (spell_all (segment_trees (path_of r))) ≤ 65535)
+    × (length (spell_all (word_trees (communities_of r))) ≤ 65535)
+
+-- the path stands behind the next hop, three AS numbers and its count
+abbrev pub place_of_path : GatewayRec → ℕ
+place_of_path r = length (spell (address_tree (address_of r.nexthop))) + 16
+
+-- and the communities behind the path and their count
+abbrev pub place_of_communities : GatewayRec → ℕ
+place_of_communities r = place_of_path r + length (spell_all (segment_trees (path_of r))) + 4
+
+-- the segments and the communities are the ranges of the body at their places
 abbrev pub HasLists : List ℕ → GatewayRec → Type 0
-HasLists body r = ((at : ℕ) × IsRange body at (spell_all (segment_trees (path_of r))))
-    × ((at : ℕ) × IsRange body at (spell_all (word_trees (communities_of r))))
+HasLists body r = IsRange body (place_of_path r) (spell_all (segment_trees (path_of r)))
+    × IsRange body (place_of_communities r) (spell_all (word_trees (communities_of r)))

@@ -1,22 +1,13 @@
-ghost use Rattle.std.specs.Prelude.{◌≡◌, ◌+◌, ◌<◌, ◌≤◌, ◌^◌, length, IfOk, IfErr};
+ghost use Rattle.std.specs.Prelude.{◌≡◌, ◌+◌, ◌<◌, ◌^◌, length};
 ghost use Rattle.wire_spec.specs.Bytes.{AreBytes};
-ghost use Rattle.wire_spec.specs.Fails.{Fails};
-ghost use Rattle.wire_spec.specs.Spelling.{spell_all, IsLawful};
 ghost use Rattle.wire_spec.specs.Tables.{extended_gateway};
-ghost use Rattle.wire_spec.specs.Whole.{SpellsFront};
-ghost use Rattle.xdr_words.specs.ItemTrees.{run_bytes, AllFit};
 ghost use Rattle.xdr_words.specs.Readers.{Gives};
-ghost use Rattle.xdr_words.specs.Written.{Puts};
-ghost use Rattle.data_format.specs.Ranges.{EndsWith};
-ghost use Rattle.data_format.specs.Records.{record_reading, record_bytes, IsReadFrom};
-ghost use Rattle.data_format.specs.Views.{body_of, frame_view};
-ghost use Rattle.as_paths.specs.Paths.{segment_trees};
-ghost use Rattle.as_paths.specs.WordLists.{word_trees};
-ghost use Rattle.rec_extended.specs.RouteContents.{gateway_content, gateway_parts, path_of, communities_of, HasLists};
+ghost use Rattle.data_format.specs.Records.{AreFieldsOf, record_reading};
+ghost use Rattle.rec_extended.specs.RouteContents.{gateway_content, gateway_parts, path_of, communities_of, AreShortLists};
 
 use crate::address_parts::address_parts;
 use crate::{AsPath, Words};
-use data_format::{Address, Fault, Frame};
+use data_format::{Address, Fault, RecordBody};
 use wire_spec::Pad;
 use xdr_words::{Cursor, Item, Out, OutFull, length_of_run, write_run};
 
@@ -54,44 +45,33 @@ pub struct GatewayRec<'a> {
     pub tail: &'a [u8],
 }
 
+impl<'a> RecordBody<'a> for GatewayRec<'a> {
+    ghost use Rattle.std.specs.Prelude.{◌≤◌, length};
+    ghost use Rattle.wire_spec.specs.Tables.{extended_gateway};
+    ghost use Rattle.rec_extended.specs.RouteContents.{gateway_content, AreShortLists, HasLists};
+
+    ghost shape = { extended_gateway };
+
+    ghost content = { gateway_content };
+
+    ghost is_short = { λ r. AreShortLists r × (length r.tail.now ≤ 65535) };
+
+    ghost has_slices = { HasLists };
+
+    fn within(body: &'a [u8], at: usize, pad: Pad) -> Result<GatewayRec<'a>, Fault> {
+        GatewayRec::fields(body, at, pad)
+    }
+
+    fn length(&self) -> usize {
+        length_of_run(&self.items(), self.tail)
+    }
+
+    fn put(&self, out: &mut Out<'_>) -> Result<(), OutFull> {
+        write_run(out, &self.items(), self.tail)
+    }
+}
+
 impl<'a> GatewayRec<'a> {
-    /// The record in a frame's body, whatever the frame's format; `pad` is how padding is read. `Short` at the first
-    /// item that the body doesn't hold; `AddressType` at the first word where it is above 2; `SegmentType` at a segment's
-    /// first word where it is neither 1 nor 2. The place behind the body is below 2^32.
-    pub fn read(frame: Frame<'a>, pad: Pad) -> Result<GatewayRec<'a>, Fault>
-        requires { frame.at + length frame.body.now < 2 ^ 32 }
-        ensures exact { Gives gateway_content (λ f. f) result (record_reading pad extended_gateway (body_of (frame_view frame.entry))) }
-        ensures spelled { IfOk result (λ r. SpellsFront pad extended_gateway frame.entry.body.now (gateway_content r)) }
-        ensures fault { IfErr result (λ f. Fails pad extended_gateway (body_of (frame_view frame.entry)) f) }
-
-        // The tail is the rest of the body, and the lists are within it.
-        ensures tail { IfOk result (λ r. EndsWith frame.entry.body.now r.tail.now) }
-        ensures lists { IfOk result (λ r. HasLists frame.entry.body.now r) }
-        ensures path { IfOk result (λ r. length (spell_all (segment_trees (path_of r))) ≤ length frame.entry.body.now) }
-        ensures communities { IfOk result (λ r. length (spell_all (word_trees (communities_of r))) ≤ length frame.entry.body.now) }
-    {
-        GatewayRec::within(frame.body, frame.at, pad)
-    }
-
-    // The same of bytes, the first of which stands at this place.
-    fn within(body: &'a [u8], at: usize, pad: Pad) -> Result<GatewayRec<'a>, Fault>
-        requires { at + length body.now < 2 ^ 32 }
-        ensures exact { Gives gateway_content (λ f. f) result (record_reading pad extended_gateway (record { at = at; bytes = body.now })) }
-        ensures bytes { AreBytes body.now }
-    {
-        let mut cursor = Cursor::within(body, pad, at);
-        Ok(GatewayRec {
-            nexthop: Address::read(&mut cursor)?,
-            as_number: cursor.word()?,
-            src_as: cursor.word()?,
-            src_peer_as: cursor.word()?,
-            path: AsPath::read(&mut cursor)?,
-            communities: Words::read(&mut cursor)?,
-            localpref: cursor.word()?,
-            tail: cursor.rest(),
-        })
-    }
-
     /// A record of these parts, whose path is the segments that are left in `path`.
     pub fn make(
         head: GatewayHead,
@@ -127,29 +107,23 @@ impl<'a> GatewayRec<'a> {
         self.communities.fork()
     }
 
-    /// The length of its body in bytes. The bytes of the path, those of the
-    /// communities and the tail are at most 65,535 each.
-    pub fn length(&self) -> usize
-        requires path { length (spell_all (segment_trees (path_of self.now))) ≤ 65535 }
-        requires communities { length (spell_all (word_trees (communities_of self.now))) ≤ 65535 }
-        requires tail { length self.now.tail.now ≤ 65535 }
-        ensures { result ≡ length (record_bytes (gateway_content self.now)) }
+    // The fields, one after the other, and the tail.
+    fn fields(body: &'a [u8], at: usize, pad: Pad) -> Result<GatewayRec<'a>, Fault>
+        requires { at + length body.now < 2 ^ 32 }
+        ensures exact { Gives gateway_content (λ f. f) result (record_reading pad extended_gateway (record { at = at; bytes = body.now })) }
+        ensures bytes { AreBytes body.now }
     {
-        length_of_run(&self.items(), self.tail)
-    }
-
-    /// Its body, whole or not at all. The bytes of the path, those of the
-    /// communities and the tail are at most 65,535 each.
-    pub fn write(&self, out: &mut Out<'_>) -> Result<(), OutFull>
-        requires path { length (spell_all (segment_trees (path_of self.now))) ≤ 65535 }
-        requires communities { length (spell_all (word_trees (communities_of self.now))) ≤ 65535 }
-        requires tail { length self.now.tail.now ≤ 65535 }
-        ensures written { Puts out.old out.new result (record_bytes (gateway_content self.now)) }
-
-        // Wherever this body stands and however padding is read, the record is read from it again.
-        ensures again { IsReadFrom extended_gateway (record_bytes (gateway_content self.now)) (gateway_content self.now) }
-    {
-        write_run(out, &self.items(), self.tail)
+        let mut cursor = Cursor::within(body, pad, at);
+        Ok(GatewayRec {
+            nexthop: Address::read(&mut cursor)?,
+            as_number: cursor.word()?,
+            src_as: cursor.word()?,
+            src_peer_as: cursor.word()?,
+            path: AsPath::read(&mut cursor)?,
+            communities: Words::read(&mut cursor)?,
+            localpref: cursor.word()?,
+            tail: cursor.rest(),
+        })
     }
 
     // Its numbers are words.
@@ -167,11 +141,8 @@ impl<'a> GatewayRec<'a> {
 
     // The fields in the order of the wire.
     fn items(&self) -> [Item<'_>; 10]
-        requires path { length (spell_all (segment_trees (path_of self.now))) ≤ 65535 }
-        requires communities { length (spell_all (word_trees (communities_of self.now))) ≤ 65535 }
-        ensures body { run_bytes result self.now.tail.now ≡ record_bytes (gateway_content self.now) }
-        ensures fit { AllFit result }
-        ensures lawful { IsLawful extended_gateway (gateway_content self.now).0 }
+        requires { AreShortLists self.now }
+        ensures { AreFieldsOf extended_gateway (gateway_content self.now) result }
     {
         self.numbers();
         let nexthop = address_parts(&self.nexthop);
