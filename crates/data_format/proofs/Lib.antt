@@ -6,3 +6,4 @@ pub mod Parts
 pub mod Samples
 pub mod Records
 pub mod Unchecked
+pub mod Values

@@ -7,6 +7,7 @@ pub mod Trees
 pub mod Parts
 pub mod Samples
 pub mod Records
+pub mod Values
 pub use Rattle.wire_spec.specs.Heads
 pub use Rattle.wire_spec.specs.Tables
 pub use Rattle.xdr_words.specs.Readers

@@ -14,6 +14,7 @@ mod part_laws;
 mod port;
 mod record_body;
 mod source;
+mod value_laws;
 
 pub use address::Address;
 pub use check::{AnyBody, BodyCheck};
@@ -27,4 +28,5 @@ pub use part_laws::parts_within_ranges;
 pub use port::Port;
 pub use record_body::RecordBody;
 pub use source::SourceId;
+pub use value_laws::values_have_their_parts;
 pub use wire_spec::{Fault, FaultKind};
