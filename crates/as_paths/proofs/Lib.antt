@@ -1,3 +1,4 @@
 pub mod Arrays
 pub mod WordRuns
 pub mod Paths
+pub mod OnePath

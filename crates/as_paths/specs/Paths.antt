@@ -1,12 +1,15 @@
 -- The segments of AS paths (sFlow Version 5, section 5).
-use Rattle.std.specs.Prelude.{◌≡◌, ℕ, ◌==◌, Bool, true, false, List, [], Result, Ok, Err, if◌then◌else◌}
+use Rattle.std.specs.Prelude.{◌≡◌, ℕ, ◌==◌, ◌⊎◌, Bool, true, false, List, [], Result, Ok, Err, if◌then◌else◌}
 use Rattle.wire_spec.specs.declared.fault.Fault.{Fault}
-use Rattle.wire_spec.specs.Shapes.{segment, Tree, Trees}
+use Rattle.wire_spec.specs.declared.pad.Pad.TheVariants.{Any}
+use Rattle.wire_spec.specs.Shapes.{segment, Tree, Trees, count_of}
+use Rattle.wire_spec.specs.Spells.{Each, Spells}
 use Rattle.wire_spec.specs.Spelling.{spell_all}
-use Rattle.wire_spec.specs.Fails.{Remaining, past, unknown_word}
+use Rattle.wire_spec.specs.Fails.{Remaining, past, unknown_word, After, Fails, FailsAmong}
 use Rattle.wire_spec.specs.Reading.{◌>>=◌, word_at}
 use Rattle.wire_spec.specs.Bodies.{items_at}
-use Rattle.wire_spec.specs.Whole.{from_start, at_end}
+use Rattle.wire_spec.specs.Tables.{path_segment}
+use Rattle.wire_spec.specs.Whole.{from_start, at_end, IsTrailing}
 use Rattle.as_paths.specs.Arrays.{list_of}
 use Rattle.as_paths.specs.Arrays.{trees_of}
 use Rattle.as_paths.specs.declared.segment.Segment.{Segment}
@@ -38,6 +41,15 @@ path_at b = word_at b >>= λ n. items_at segment_at n.0 n.1
 -- n segments, and nothing behind them
 abbrev pub path_over : ℕ → List ℕ → Result (List Segment) Fault
 path_over n bytes = items_at segment_at n (from_start bytes) >>= at_end
+
+-- the bytes spell n segments, which have these values
+abbrev pub SpellsSegments : ℕ → List ℕ → Trees → Type 0
+SpellsSegments n bytes ts = (count_of ts ≡ n) × Each (Spells Any path_segment) ts bytes
+
+-- Fewer than n segments are spelled, and the next one fails; or n are spelled, and bytes are left.
+abbrev pub FailsSegments : ℕ → List ℕ → Fault → Type 0
+FailsSegments n bytes f = FailsAmong (Spells Any path_segment) (Fails Any path_segment) n (from_start bytes) f
+    ⊎ ((ts : Trees) × (count_of ts ≡ n) × After (Each (Spells Any path_segment) ts) IsTrailing (from_start bytes) f)
 
 -- ---- segments that were read once
 

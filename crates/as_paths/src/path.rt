@@ -6,7 +6,7 @@ ghost use Rattle.wire_spec.specs.Shapes.{array, Tree};
 ghost use Rattle.wire_spec.specs.Tables.{path_segment};
 ghost use Rattle.xdr_words.specs.Readers.{Reads, Gives, remaining};
 ghost use Rattle.as_paths.specs.declared.segment.Segment.{Segment};
-ghost use Rattle.as_paths.specs.Paths.{segment_at, segment_trees, path_at, path_over};
+ghost use Rattle.as_paths.specs.Paths.{segment_at, segment_trees, path_at, path_over, SpellsSegments, FailsSegments};
 
 use crate::Segment;
 use std::marker::Model;
@@ -39,6 +39,17 @@ impl<'a> AsPath<'a> {
     /// at a segment's first word that is neither 1 nor 2, or `Trailing` at the first byte behind the last segment, the
     /// first of these from the front on. Places count from 0.
     pub fn over(bytes: &'a [u8], count: u32) -> Result<AsPath<'a>, Fault>
+        requires { length bytes.now ≤ 65535 }
+        ensures segments { Gives (λ p. p) (λ f. f) result (path_over count bytes.now) }
+        ensures spelled { IfOk result (λ p. SpellsSegments count bytes.now (segment_trees p)) }
+        ensures fault { IfErr result (λ f. FailsSegments count bytes.now f) }
+    {
+        AsPath::cut(bytes, count)
+    }
+
+    // These segments by the definition of segments that are read one after the other.
+    #[inline(always)]
+    fn cut(bytes: &'a [u8], count: u32) -> Result<AsPath<'a>, Fault>
         requires { length bytes.now ≤ 65535 }
         ensures { Gives (λ p. p) (λ f. f) result (path_over count bytes.now) }
     {
