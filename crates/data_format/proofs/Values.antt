@@ -1,6 +1,6 @@
 -- A value has the parts that it was made of.
 use Rattle.std.proofs.Common.{◌≡◌, suc, ℕ, ◌+◌, ◌*◌, ◌/◌, ◌%◌, ◌^◌, List, [], ◌∷◌, length, refl, ap, ◌∙◌, arith}
-use Rattle.wire_spec.specs.Shapes.{Table, Tree, Trees, count_of}
+use Rattle.wire_spec.specs.Shapes.{Tree, Trees, count_of}
 use Rattle.wire_spec.specs.Heads.{AgentAddress, unknown, ipv4, ipv6, Head, address_tree, datagram_tree}
 use Rattle.wire_spec.specs.Members.{with_last_tree}
 use Rattle.data_format.specs.declared.format.Format.{Format}

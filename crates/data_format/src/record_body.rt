@@ -67,6 +67,7 @@ pub trait RecordBody<'a>: Sized + Drop {
     }
 
     /// Its body, whole or not at all.
+    #[inline(always)]
     final fn write(&self, out: &mut Out<'_>) -> Result<(), OutFull>
         requires { is_short self.now }
         ensures written { Puts out.old out.new result (record_bytes (content self.now)) }
