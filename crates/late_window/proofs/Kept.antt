@@ -7,6 +7,7 @@ use Rattle.late_window.specs.Settled.{IsEmpty}
 use Rattle.late_window.specs.States.{is_recent}
 use Rattle.late_window.specs.Steps.{Begins, Advances, Fills}
 use Rattle.late_window.specs.Fields.{held, window_state, IsWindow}
+use Rattle.late_window.specs.declared.TheConstants.{MAX_WIDTH}
 use Rattle.late_window.specs.declared.window.Window.TheInside.{Inside}
 use Rattle.late_window.proofs.Recent.{recent-held}
 use Rattle.late_window.proofs.Pending.{Moved, Added, settled-first, settled-moved, settled-extended, settled-filled, pending-filled}
@@ -16,8 +17,9 @@ or-false true = refl
 or-false false = refl
 
 -- a bit that was added to those below the width
-narrowed : (old new : ℕ → Bool) (width back : ℕ) → width ≤ 1024 → Added old new 1024 back → Added old new width back
-narrowed old new width back to a k within = a k (omega arith)
+narrowed : (old new : ℕ → Bool) (slots width back : ℕ) → width ≤ slots → Added old new slots back
+    → Added old new width back
+narrowed old new slots width back room a k within = a k (omega arith)
 
 pub record KeepsAndBegins (old new : Inside) (mark : ℕ) : Type 0 where
   pub keeps : IsWindow new
@@ -25,11 +27,13 @@ pub record KeepsAndBegins (old new : Inside) (mark : ℕ) : Type 0 where
 
 pub begun : (old new : Inside) (mark : ℕ) → IsWindow old → mark < 2 ^ 32 → old.entered < 2 ^ 62 → old.received ≡ 0
     → new.width ≡ old.width → new.entered ≡ old.entered + 1 → new.received ≡ 1 → new.pending ≡ old.pending
-    → new.newest ≡ pos mark → new.span ≡ old.span → Added (held old) (held new) 1024 0
+    → new.newest ≡ pos mark → new.span ≡ old.span
+    → new.recent.slots ≡ old.recent.slots → Added (held old) (held new) old.recent.slots 0
     → KeepsAndBegins old new mark
-begun old new mark w small few none width entered received pending newest span added =
+begun old new mark w small few none width entered received pending newest span slots added =
     let from : 1 ≤ old.width = w.width_from in
-    let to : old.width ≤ 1024 = w.width_to in
+    let to : old.width ≤ MAX_WIDTH = w.width_to in
+    let room : old.width ≤ old.recent.slots = w.room in
     let empty : IsEmpty (held old) old.width old.span old.pending old.entered = (w.empty none).1 in
     let no_span : new.span ≡ 0 = span ∙ empty.no_span in
     let no_pending : new.pending ≡ 0 = pending ∙ empty.no_pending in
@@ -40,6 +44,7 @@ begun old new mark w small few none width entered received pending newest span a
       keeps = record {
         width_from = omega arith;
         width_to = omega arith;
+        room = omega arith;
         few = omega arith;
         received_few = omega arith;
         newest_from = omega (arith, ints);
@@ -65,12 +70,14 @@ pub record KeepsAndAdvances (old new : Inside) (step : ℕ) : Type 0 where
 
 pub advanced : (old new : Inside) (step : ℕ) → IsWindow old → old.entered < 2 ^ 62 → 0 < old.received → 0 < step
     → step < 2 ^ 31 → new.width ≡ old.width → new.entered ≡ old.entered + 1 → new.received ≡ old.received + 1
-    → new.newest ≡ (old.newest +ℤ pos step) → new.span ≡ old.span + step → Moved (held old) (held new) old.width step
+    → new.newest ≡ (old.newest +ℤ pos step) → new.span ≡ old.span + step
+    → new.recent.slots ≡ old.recent.slots → Moved (held old) (held new) old.width step
     → new.pending ≡ count_below (λ k. not (held new k)) (min (old.span + step) old.width)
     → new.pending + 1 ≤ old.pending + step → KeepsAndAdvances old new step
-advanced old new step w few some ahead near width entered received newest span moved pending rise =
+advanced old new step w few some ahead near width entered received newest span slots moved pending rise =
     let from : 1 ≤ old.width = w.width_from in
-    let to : old.width ≤ 1024 = w.width_to in
+    let to : old.width ≤ MAX_WIDTH = w.width_to in
+    let room : old.width ≤ old.recent.slots = w.room in
     let up : pos 0 ≤ℤ old.newest = w.newest_from in
     let top : old.newest ≤ℤ pos (2 ^ 32 * old.entered) = w.newest_to in
     let far : old.span ≤ 2 ^ 31 * old.entered = w.span_to in
@@ -80,6 +87,7 @@ advanced old new step w few some ahead near width entered received newest span m
       keeps = record {
         width_from = omega arith;
         width_to = omega arith;
+        room = omega arith;
         few = omega arith;
         received_few = omega arith;
         newest_from = omega (arith, ints);
@@ -120,20 +128,22 @@ filled-recent old new back k added width within =
 pub extended : (old new : Inside) (back : ℕ) → IsWindow old → old.entered < 2 ^ 62 → 0 < old.received
     → back < old.width → old.span < back → new.width ≡ old.width → new.entered ≡ old.entered + 1
     → new.received ≡ old.received + 1 → new.newest ≡ old.newest → new.span ≡ back
-    → Added (held old) (held new) 1024 back → new.pending ≡ old.pending + (back - old.span - 1)
+    → new.recent.slots ≡ old.recent.slots → Added (held old) (held new) old.recent.slots back → new.pending ≡ old.pending + (back - old.span - 1)
     → KeepsAndFills old new back back
-extended old new back w few some within beyond width entered received newest span added pending =
+extended old new back w few some within beyond width entered received newest span slots added pending =
     let from : 1 ≤ old.width = w.width_from in
-    let to : old.width ≤ 1024 = w.width_to in
+    let to : old.width ≤ MAX_WIDTH = w.width_to in
+    let room : old.width ≤ old.recent.slots = w.room in
     let up : pos 0 ≤ℤ old.newest = w.newest_from in
     let top : old.newest ≤ℤ pos (2 ^ 32 * old.entered) = w.newest_to in
     let all : old.received + old.pending ≤ old.span + 1 = w.sum some in
     let counted : old.received ≤ old.entered = w.received_few in
-    let near : Added (held old) (held new) old.width back = narrowed (held old) (held new) old.width back to added in
+    let near : Added (held old) (held new) old.width back = narrowed (held old) (held new) old.recent.slots old.width back room added in
     record {
       keeps = record {
         width_from = omega arith;
         width_to = omega arith;
+        room = omega arith;
         few = omega arith;
         received_few = omega arith;
         newest_from = omega (arith, ints);
@@ -157,23 +167,25 @@ extended old new back w few some within beyond width entered received newest spa
 pub filled : (old new : Inside) (back : ℕ) → IsWindow old → old.entered < 2 ^ 62 → 0 < old.received
     → back < old.width → back ≤ old.span → held old back ≡ false → new.width ≡ old.width
     → new.entered ≡ old.entered + 1 → new.received ≡ old.received + 1 → new.newest ≡ old.newest
-    → new.span ≡ old.span → Added (held old) (held new) 1024 back → new.pending ≡ old.pending - 1
+    → new.span ≡ old.span → new.recent.slots ≡ old.recent.slots → Added (held old) (held new) old.recent.slots back → new.pending ≡ old.pending - 1
     → KeepsAndFills old new back old.span
-filled old new back w few some within low out width entered received newest span added pending =
+filled old new back w few some within low out width entered received newest span slots added pending =
     let from : 1 ≤ old.width = w.width_from in
-    let to : old.width ≤ 1024 = w.width_to in
+    let to : old.width ≤ MAX_WIDTH = w.width_to in
+    let room : old.width ≤ old.recent.slots = w.room in
     let up : pos 0 ≤ℤ old.newest = w.newest_from in
     let top : old.newest ≤ℤ pos (2 ^ 32 * old.entered) = w.newest_to in
     let far : old.span ≤ 2 ^ 31 * old.entered = w.span_to in
     let all : old.received + old.pending ≤ old.span + 1 = w.sum some in
     let counted : old.received ≤ old.entered = w.received_few in
-    let near : Added (held old) (held new) old.width back = narrowed (held old) (held new) old.width back to added in
+    let near : Added (held old) (held new) old.width back = narrowed (held old) (held new) old.recent.slots old.width back room added in
     let one = pending-filled (held old) (held new) old.width old.span old.pending back (w.settled some) near within
     low out in
     record {
       keeps = record {
         width_from = omega arith;
         width_to = omega arith;
+        room = omega arith;
         few = omega arith;
         received_few = omega arith;
         newest_from = omega (arith, ints);

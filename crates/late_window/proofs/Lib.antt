@@ -1,6 +1,7 @@
 pub mod Tallies
 pub mod Shown
 pub mod Sides
+pub mod WordBits
 pub mod RingBits
 pub mod Recent
 pub mod Pending

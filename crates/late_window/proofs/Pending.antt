@@ -68,18 +68,19 @@ pending-near old new width span step reach kept m ahead near r e =
     ap (count_below (λ k. not (old k))) parts ∙ before in
     rw whole (omega (arith, now, passed, same, split))
 
--- the bits where the width is passed: they begin anew
-pub moved-far : (old empty new : ℕ → Bool) (width step : ℕ) → width ≤ step → width ≤ 1024
-    → ((k : ℕ) → k < 1024 → empty k ≡ false) → ((k : ℕ) → k < 1024 → new k ≡ (k == 0 || empty k))
-    → Moved old new width step
-moved-far old empty new width step far to none set k within =
-    set k (omega arith) ∙ (rw (none k (omega arith), lt-leb step k (omega arith)) refl)
+-- the bits where the width is passed
+pub moved-far : (old mid new : ℕ → Bool) (slots width step : ℕ) → width ≤ step → width ≤ slots
+    → ((k : ℕ) → k < slots → mid k ≡ (nat_le width k && old (k - width)))
+    → ((k : ℕ) → k < slots → new k ≡ (k == 0 || mid k)) → Moved old new width step
+moved-far old mid new slots width step far room moved set k within =
+    set k (omega arith)
+    ∙ (rw (moved k (omega arith), lt-leb width k within, lt-leb step k (omega arith)) refl)
 
 -- and where it isn't
-pub moved-near : (old mid new : ℕ → Bool) (width step : ℕ) → width ≤ 1024
-    → ((k : ℕ) → k < 1024 → mid k ≡ (nat_le step k && old (k - step)))
-    → ((k : ℕ) → k < 1024 → new k ≡ (k == 0 || mid k)) → Moved old new width step
-moved-near old mid new width step to moved set k within =
+pub moved-near : (old mid new : ℕ → Bool) (slots width step : ℕ) → width ≤ slots
+    → ((k : ℕ) → k < slots → mid k ≡ (nat_le step k && old (k - step)))
+    → ((k : ℕ) → k < slots → new k ≡ (k == 0 || mid k)) → Moved old new width step
+moved-near old mid new slots width step room moved set k within =
     set k (omega arith) ∙ (rw (moved k (omega arith)) refl)
 
 pub settled-moved : (old new : ℕ → Bool) (width span step pending now : ℕ) → IsSettled old width span pending

@@ -1,12 +1,14 @@
--- The bits of a ring: one is read, added or removed, and the head moves on.
-use Rattle.std.proofs.Common.{◌≡◌, ℕ, zero, suc, ◌+◌, ◌-◌, ◌*◌, ◌/◌, ◌%◌, ◌^◌, ◌<◌, ◌≤◌, inl, inr, Bool, true, false, cond, ◌&&◌, ◌||◌, not, refl, ◌∙◌, ap, arith, List, [], ◌∷◌, length, set, get_or, get_or-set_same, get_or-set_other, replicate, bit_and, bit_or, w64, eqb}
-use Rattle.std.specs.Prelude.{◌==◌, nat_le}
+-- The bits of a ring: one is read or added, a run of them is removed, and the head moves on.
+use Rattle.std.proofs.Common.{◌≡◌, ℕ, zero, suc, ◌+◌, ◌-◌, ◌*◌, ◌/◌, ◌%◌, ◌^◌, ◌<◌, ◌≤◌, ◌⊎◌, inl, inr, Bool, true, false, cond, ◌&&◌, ◌||◌, not, refl, sym, ◌∙◌, ap, arith, List, length, set, get_or, get_or-set_same, get_or-set_other, replicate, bit_and, bit_or, w64, eqb}
+use Rattle.std.specs.Prelude.{◌==◌, nat_le, count_ones}
 use Rattle.std.specs.Int.{bit_at}
 use Rattle.std.proofs.lemmas.Bool.{cases_eq, cases_lt, eq-eqb, ne_eqb, le-leb, lt-leb}
-use Rattle.std.proofs.lemmas.Nat.Bits.{shr_and_one, bit_at-zero, bit_at_set_same, bit_at_set_other, bit_at_clear_same, bit_at_clear_other}
+use Rattle.std.proofs.lemmas.Nat.Bits.{shr_and_one, bit_at-zero, bit_at_set_same, bit_at_set_other}
 use Rattle.late_window.specs.Distances.{count_below}
 use Rattle.late_window.specs.Ring.{bit_of_slot, slot_below, bit_below}
-use Rattle.late_window.proofs.Tallies.{count-suc}
+use Rattle.late_window.specs.declared.ring.TheConstants.{WORDS}
+use Rattle.late_window.proofs.Tallies.{count-same, count-split}
+use Rattle.late_window.proofs.WordBits.{bit-cleared, bit-left, run-lacked}
 
 -- ---- one bit
 
@@ -19,23 +21,27 @@ bit-read words slot = rw (shr_and_one (get_or words (slot / 64) 0) (slot % 64)) 
 apart-in_word : (a b : ℕ) → a / 64 ≡ b / 64 → (a ≡ b → ⊥) → a % 64 ≡ b % 64 → ⊥
 apart-in_word a b word apart e = apart (omega arith)
 
--- a bit that is written to one word, with its effect on the bits of that word
-bit-written : (words : List ℕ) (slot other new : ℕ) (at_slot : Bool) → length words ≡ 16 → slot < 1024 → other < 1024
-    → (bit_at new (slot % 64) == 1) ≡ at_slot
-    → ((i : ℕ) → i < 64 → (i ≡ slot % 64 → ⊥) → bit_at new i ≡ bit_at (get_or words (slot / 64) 0) i)
-    → bit_of_slot (set words (slot / 64) new) other ≡ cond (other == slot) at_slot (bit_of_slot words other)
+cond-or : (a b : Bool) → cond a true b ≡ (a || b)
+cond-or true b = refl
+cond-or false b = refl
+
+pub bit-added : (words : List ℕ) (slot other : ℕ) → length words ≡ WORDS → slot < 64 * WORDS
+    → bit_of_slot (set words (slot / 64) (bit_or (get_or words (slot / 64) 0) (1 * 2 ^ (slot % 64) % 2 ^ 64))) other
+    ≡ (other == slot || bit_of_slot words other)
 unfolding bit_of_slot
-bit-written words slot other new at_slot len within o here there =
+bit-added words slot other len within =
+    let word : ℕ = get_or words (slot / 64) 0 in
+    let new : ℕ = bit_or (get_or words (slot / 64) 0) (1 * 2 ^ (slot % 64) % 2 ^ 64) in
+    let low : slot % 64 < 64 = omega arith in
     let inside : slot / 64 < length words = omega arith in
     elim (cases_eq (other / 64) (slot / 64)) [
-      | inl word ↦
+      | inl same_word ↦
           let read : get_or (set words (slot / 64) new) (slot / 64) 0 ≡ new = get_or-set_same words (slot / 64) new 0 inside in
-          rw (word, read) (elim (cases_eq other slot) [
-            | inl same ↦ rw (eq-eqb other slot same, same) here
+          rw (same_word, read) (elim (cases_eq other slot) [
+            | inl same ↦ rw (eq-eqb other slot same, same) (eq-eqb _ 1 (bit_at_set_same w64 word (slot % 64) low))
             | inr apart ↦
-                let low : other % 64 < 64 = omega arith in
-                let kept : bit_at new (other % 64) ≡ bit_at (get_or words (slot / 64) 0) (other % 64) =
-                there (other % 64) low (apart-in_word other slot word apart) in
+                let kept : bit_at new (other % 64) ≡ bit_at word (other % 64) =
+                bit_at_set_other w64 word (slot % 64) low (other % 64) (apart-in_word other slot same_word apart) in
                 rw (ne_eqb other slot apart, kept) refl
           ])
       | inr words_apart ↦
@@ -45,101 +51,159 @@ bit-written words slot other new at_slot len within o here there =
           rw (apart, read) refl
     ]
 
-cond-or : (a b : Bool) → cond a true b ≡ (a || b)
-cond-or true b = refl
-cond-or false b = refl
+-- ---- a run of bits in one word
 
-cond-and : (a b : Bool) → cond a false b ≡ (not a && b)
-cond-and true b = refl
-cond-and false b = refl
+-- the words, where this run of ones was cleared in the slot's word
+abbrev cleared : List ℕ → ℕ → ℕ → List ℕ
+cleared words slot ones = set words (slot / 64) (bit_and (get_or words (slot / 64) 0) (2 ^ 64 - 1 - ones))
 
-pub bit-added : (words : List ℕ) (slot other : ℕ) → length words ≡ 16 → slot < 1024 → other < 1024
-    → bit_of_slot (set words (slot / 64) (bit_or (get_or words (slot / 64) 0) (1 * 2 ^ (slot % 64) % 2 ^ 64))) other
-    ≡ (other == slot || bit_of_slot words other)
-bit-added words slot other len within o =
+slot-cleared : (words : List ℕ) (slot step other ones : ℕ) → length words ≡ WORDS → slot < 64 * WORDS
+    → slot % 64 + step ≤ 64 → ones ≡ 2 ^ (slot % 64 + step) - 2 ^ (slot % 64) → slot ≤ other → other < slot + step
+    → bit_of_slot (cleared words slot ones) other ≡ false
+unfolding bit_of_slot
+slot-cleared words slot step other ones len within in_word run from to =
     let word : ℕ = get_or words (slot / 64) 0 in
-    let low : slot % 64 < 64 = omega arith in
-    bit-written words slot other (bit_or (get_or words (slot / 64) 0) (1 * 2 ^ (slot % 64) % 2 ^ 64)) true len within o
-    (eq-eqb _ 1 (bit_at_set_same w64 word (slot % 64) low))
-    (λ i b apart. bit_at_set_other w64 word (slot % 64) low i apart)
-    ∙ cond-or (other == slot) (bit_of_slot words other)
+    let here : other / 64 ≡ slot / 64 = omega arith in
+    let read = get_or-set_same words (slot / 64) (bit_and word (2 ^ 64 - 1 - ones)) 0 (omega arith) in
+    let none = bit-cleared word (slot % 64) step (other % 64) in_word (omega arith) (omega arith) in
+    rw (here, read, run, none) refl
 
-pub bit-removed : (words : List ℕ) (slot other : ℕ) → length words ≡ 16 → slot < 1024 → other < 1024
-    → bit_of_slot (set words (slot / 64)
-    (bit_and (get_or words (slot / 64) 0) (2 ^ 64 - 1 - 1 * 2 ^ (slot % 64) % 2 ^ 64))) other
-    ≡ (not (other == slot) && bit_of_slot words other)
-bit-removed words slot other len within o =
+slot-left : (words : List ℕ) (slot step other ones : ℕ) → length words ≡ WORDS → slot < 64 * WORDS
+    → slot % 64 + step ≤ 64 → ones ≡ 2 ^ (slot % 64 + step) - 2 ^ (slot % 64) → (other < slot) ⊎ (slot + step ≤ other)
+    → bit_of_slot (cleared words slot ones) other ≡ bit_of_slot words other
+unfolding bit_of_slot
+slot-left words slot step other ones len within in_word run out =
     let word : ℕ = get_or words (slot / 64) 0 in
-    let low : slot % 64 < 64 = omega arith in
-    bit-written words slot other (bit_and (get_or words (slot / 64) 0) (2 ^ 64 - 1 - 1 * 2 ^ (slot % 64) % 2 ^ 64)) false
-    len within o
-    (ap (λ (n : ℕ). n == 1) (bit_at_clear_same w64 word (slot % 64) low))
-    (λ i b apart. bit_at_clear_other w64 word (slot % 64) low i b apart)
-    ∙ cond-and (other == slot) (bit_of_slot words other)
+    elim (cases_eq (other / 64) (slot / 64)) [
+      | inl here ↦
+          let read = get_or-set_same words (slot / 64) (bit_and word (2 ^ 64 - 1 - ones)) 0 (omega arith) in
+          let kept = bit-left word (slot % 64) step (other % 64) in_word (omega arith) (beside here out) in
+          rw (here, read, run, kept) refl
+      | inr apart ↦
+          let read = get_or-set_other words (slot / 64) (other / 64) (bit_and word (2 ^ 64 - 1 - ones)) 0 apart in
+          rw read refl
+    ]
+  where
+    beside : other / 64 ≡ slot / 64 → (other < slot) ⊎ (slot + step ≤ other)
+        → (other % 64 < slot % 64) ⊎ (slot % 64 + step ≤ other % 64)
+    beside here (inl below) = inl (omega arith)
+    beside here (inr above) = inr (omega arith)
 
 -- ---- slots
 
-pub slot-within : (head back : ℕ) → slot_below head back < 1024
-slot-within head back = omega arith
+slot-near : (slots head back : ℕ) → back ≤ head → slot_below slots head back ≡ head - back
+slot-near slots head back near = rw (le-leb back head near) refl
 
-slot-same : (head a b : ℕ) → head < 1024 → a < 1024 → b < 1024 → slot_below head a ≡ slot_below head b → a ≡ b
-slot-same head a b h la lb e = omega arith
+slot-far : (slots head back : ℕ) → head < back → slot_below slots head back ≡ head + slots - back
+slot-far slots head back far = rw (lt-leb back head far) refl
+
+pub slot-within : (slots head back : ℕ) → head < slots → back < slots → slot_below slots head back < slots
+slot-within slots head back h b = elim (cases_lt head back) [
+  | inl far ↦ rw (slot-far slots head back far) (omega arith)
+  | inr near ↦ rw (slot-near slots head back near) (omega arith)
+]
 
 -- distances are apart exactly where their slots are
-slot-test : (head a b : ℕ) → head < 1024 → a < 1024 → b < 1024
-    → (slot_below head a == slot_below head b) ≡ (a == b)
-slot-test head a b h la lb =
+slot-same : (slots head a b : ℕ) → head < slots → a < slots → b < slots
+    → slot_below slots head a ≡ slot_below slots head b → a ≡ b
+slot-same slots head a b h la lb e = elim (cases_lt head a) [
+  | inl far_a ↦ elim (cases_lt head b) [
+    | inl far ↦ let s = sym (slot-far slots head a far_a) ∙ e ∙ slot-far slots head b far in omega (arith, s)
+    | inr near ↦ let s = sym (slot-far slots head a far_a) ∙ e ∙ slot-near slots head b near in omega (arith, s)
+  ]
+  | inr near_a ↦ elim (cases_lt head b) [
+    | inl far ↦ let s = sym (slot-near slots head a near_a) ∙ e ∙ slot-far slots head b far in omega (arith, s)
+    | inr near ↦ let s = sym (slot-near slots head a near_a) ∙ e ∙ slot-near slots head b near in omega (arith, s)
+  ]
+]
+
+slot-test : (slots head a b : ℕ) → head < slots → a < slots → b < slots
+    → (slot_below slots head a == slot_below slots head b) ≡ (a == b)
+slot-test slots head a b h la lb =
     elim (cases_eq a b) [
-      | inl e ↦ rw (eq-eqb a b e) (eq-eqb _ _ (ap (slot_below head) e))
-      | inr apart ↦ rw (ne_eqb a b apart) (ne_eqb _ _ (λ e. apart (slot-same head a b h la lb e)))
+      | inl e ↦ rw (eq-eqb a b e) (eq-eqb _ _ (ap (slot_below slots head) e))
+      | inr apart ↦ rw (ne_eqb a b apart) (ne_eqb _ _ (λ e. apart (slot-same slots head a b h la lb e)))
     ]
 
-pub below-added : (words : List ℕ) (head back slot k : ℕ) → length words ≡ 16 → head < 1024 → back < 1024 → k < 1024
-    → slot ≡ slot_below head back
-    → bit_below (set words (slot / 64) (bit_or (get_or words (slot / 64) 0) (1 * 2 ^ (slot % 64) % 2 ^ 64))) head k
-    ≡ (k == back || bit_below words head k)
-below-added words head back slot k len h b l e =
-    bit-added words slot (slot_below head k) len (rw e (slot-within head back)) (slot-within head k)
-    ∙ (rw (e, slot-test head k back h l b) refl)
+pub below-added : (words : List ℕ) (slots head back slot k : ℕ) → length words ≡ WORDS → slots ≤ 64 * WORDS
+    → head < slots → back < slots → k < slots → slot ≡ slot_below slots head back
+    → bit_below (set words (slot / 64) (bit_or (get_or words (slot / 64) 0) (1 * 2 ^ (slot % 64) % 2 ^ 64))) slots head k
+    ≡ (k == back || bit_below words slots head k)
+below-added words slots head back slot k len room h b l e =
+    let within = slot-within slots head back h b in
+    bit-added words slot (slot_below slots head k) len (omega (arith, within, e))
+    ∙ (rw (e, slot-test slots head k back h l b) refl)
 
--- the head moves on by one, and its bit is removed
-pub below-moved : (words : List ℕ) (head k : ℕ) → length words ≡ 16 → head < 1024 → k < 1024
-    → bit_below (set words ((head + 1) % 1024 / 64)
-    (bit_and (get_or words ((head + 1) % 1024 / 64) 0) (2 ^ 64 - 1 - 1 * 2 ^ ((head + 1) % 1024 % 64) % 2 ^ 64)))
-    ((head + 1) % 1024) k
-    ≡ (nat_le 1 k && bit_below words head (k - 1))
-below-moved words head zero len h l =
-    let at : slot_below ((head + 1) % 1024) 0 ≡ (head + 1) % 1024 = omega arith in
-    bit-removed words ((head + 1) % 1024) (slot_below ((head + 1) % 1024) 0) len (omega arith) (omega arith)
-    ∙ (rw (at, eq-eqb ((head + 1) % 1024) _ refl) refl)
-below-moved words head (suc k) len h l =
-    let at : slot_below ((head + 1) % 1024) (suc k) ≡ slot_below head k = omega arith in
-    let apart : eqb (slot_below head k) ((head + 1) % 1024) ≡ false =
-    ne_eqb (slot_below head k) ((head + 1) % 1024) (λ e. other k head l e) in
-    let less : suc k - 1 ≡ k = omega arith in
-    bit-removed words ((head + 1) % 1024) (slot_below ((head + 1) % 1024) (suc k)) len (omega arith) (omega arith)
-    ∙ (rw (at, apart, less, le-leb 1 (suc k) (omega arith)) refl)
-  where
-    other : (k head : ℕ) → suc k < 1024 → slot_below head k ≡ (head + 1) % 1024 → ⊥
-    other k head l e = omega arith
+-- ---- the head moves on within a word, from the next slot
 
--- one more move after so many
-pub moved-more : (f g h : ℕ → Bool) (step k : ℕ) → k < 1024
-    → ((k : ℕ) → k < 1024 → g k ≡ (nat_le step k && f (k - step)))
-    → ((k : ℕ) → k < 1024 → h k ≡ (nat_le 1 k && g (k - 1)))
-    → h k ≡ (nat_le (step + 1) k && f (k - (step + 1)))
-moved-more f g h step zero l before last =
-    last zero l ∙ (rw (lt-leb (step + 1) 0 (omega arith)) refl)
-moved-more f g h step (suc k) l before last =
-    let less : suc k - 1 ≡ k = omega arith in
-    let far : suc k - (step + 1) ≡ k - step = omega arith in
-    last (suc k) l ∙ (rw (less, far, le-leb 1 (suc k) (omega arith), before k (omega arith)) (more step k))
-  where
-    more : (step k : ℕ) → (nat_le step k && f (k - step)) ≡ (nat_le (step + 1) (suc k) && f (k - step))
-    more step k = elim (cases_lt k step) [
-      | inl passed ↦ rw (lt-leb step k passed, lt-leb (step + 1) (suc k) (omega arith)) refl
-      | inr reached ↦ rw (le-leb step k reached, le-leb (step + 1) (suc k) (omega arith)) refl
+-- the slot after the head's
+abbrev pub IsNext : ℕ → ℕ → ℕ → Type 0
+IsNext slots head slot = ((head + 1 < slots) × (slot ≡ head + 1)) ⊎ ((head + 1 ≡ slots) × (slot ≡ 0))
+
+-- a number that isn't passed keeps its slot
+slot-kept : (slots head slot step k : ℕ) → head < slots → IsNext slots head slot → 1 ≤ step → step ≤ k → k < slots
+    → slot_below slots (slot + step - 1) k ≡ slot_below slots head (k - step)
+slot-kept slots head slot step k h (inl next) some reached within =
+    let at : slot ≡ head + 1 = next.1 in
+    elim (cases_lt head (k - step)) [
+      | inl far ↦ slot-far slots (slot + step - 1) k (omega arith) ∙ (omega arith) ∙ sym (slot-far slots head (k - step) far)
+      | inr near ↦ slot-near slots (slot + step - 1) k (omega arith) ∙ (omega arith) ∙ sym (slot-near slots head (k - step) near)
     ]
+slot-kept slots head slot step k h (inr next) some reached within =
+    let last : head + 1 ≡ slots = next.0 in
+    let at : slot ≡ 0 = next.1 in
+    slot-far slots (slot + step - 1) k (omega arith) ∙ (omega arith) ∙ sym (slot-near slots head (k - step) (omega arith))
+
+-- and that slot isn't among those passed
+slot-beside : (slots head slot step k : ℕ) → head < slots → IsNext slots head slot → 1 ≤ step → step ≤ k → k < slots
+    → (slot_below slots head (k - step) < slot) ⊎ (slot + step ≤ slot_below slots head (k - step))
+slot-beside slots head slot step k h (inl next) some reached within =
+    let at : slot ≡ head + 1 = next.1 in
+    elim (cases_lt head (k - step)) [
+      | inl far ↦ let is = slot-far slots head (k - step) far in inr (omega (arith, is))
+      | inr near ↦ let is = slot-near slots head (k - step) near in inl (omega (arith, is))
+    ]
+slot-beside slots head slot step k h (inr next) some reached within =
+    let last : head + 1 ≡ slots = next.0 in
+    let at : slot ≡ 0 = next.1 in
+    let is = slot-near slots head (k - step) (omega arith) in
+    inr (omega (arith, is))
+
+pub below-moved : (words : List ℕ) (slots head slot step ones k : ℕ) → length words ≡ WORDS → slots ≤ 64 * WORDS
+    → head < slots → IsNext slots head slot → 1 ≤ step → slot % 64 + step ≤ 64
+    → ones ≡ 2 ^ (slot % 64 + step) - 2 ^ (slot % 64) → k < slots
+    → bit_below (set words (slot / 64) (bit_and (get_or words (slot / 64) 0) (2 ^ 64 - 1 - ones))) slots (slot + step - 1) k
+    ≡ (nat_le step k && bit_below words slots head (k - step))
+below-moved words slots head slot step ones k len room h next some in_word run within =
+    let inside : slot < 64 * WORDS = elim next [
+      | inl e ↦ let at : slot ≡ head + 1 = e.1 in let before : head + 1 < slots = e.0 in omega arith
+      | inr e ↦ let at : slot ≡ 0 = e.1 in omega arith
+    ] in
+    elim (cases_lt k step) [
+      | inl passed ↦
+          let at = slot-near slots (slot + step - 1) k (omega arith) in
+          rw (at, lt-leb step k passed) (slot-cleared words slot step (slot + step - 1 - k) ones len inside in_word run
+          (omega arith) (omega arith))
+      | inr reached ↦
+          let at = slot-kept slots head slot step k h next some reached within in
+          rw (at, le-leb step k reached) (slot-left words slot step (slot_below slots head (k - step)) ones len inside
+          in_word run (slot-beside slots head slot step k h next some reached within))
+    ]
+
+-- so many more after so many
+pub moved-more : (f g h : ℕ → Bool) (slots step more k : ℕ) → k < slots
+    → ((k : ℕ) → k < slots → g k ≡ (nat_le step k && f (k - step)))
+    → ((k : ℕ) → k < slots → h k ≡ (nat_le more k && g (k - more)))
+    → h k ≡ (nat_le (step + more) k && f (k - (step + more)))
+moved-more f g h slots step more k l before last = elim (cases_lt k more) [
+  | inl passed ↦ last k l ∙ (rw (lt-leb more k passed, lt-leb (step + more) k (omega arith)) refl)
+  | inr reached ↦
+      let far : k - more - step ≡ k - (step + more) = omega arith in
+      last k l ∙ (rw (le-leb more k reached, before (k - more) (omega arith), far) (elim (cases_lt (k - more) step) [
+        | inl short ↦ rw (lt-leb step (k - more) short, lt-leb (step + more) k (omega arith)) refl
+        | inr past ↦ rw (le-leb step (k - more) past, le-leb (step + more) k (omega arith)) refl
+      ]))
+]
 
 pub moved-none : (f : ℕ → Bool) (k : ℕ) → f k ≡ (nat_le 0 k && f (k - 0))
 moved-none f k = let none : k - 0 ≡ k = omega arith in rw (none, le-leb 0 k (omega arith)) refl
@@ -149,24 +213,56 @@ copies zero i = refl
 copies (suc n) zero = refl
 copies (suc n) (suc i) = copies n i
 
-zeros : (i : ℕ) → get_or {A = ℕ} (0 ∷ 0 ∷ 0 ∷ 0 ∷ 0 ∷ 0 ∷ 0 ∷ 0 ∷ 0 ∷ 0 ∷ 0 ∷ 0 ∷ 0 ∷ 0 ∷ 0 ∷ 0 ∷ []) i 0 ≡ 0
-zeros i = copies 16 i
-
-pub zero-bits : (slot : ℕ)
-    → bit_of_slot (0 ∷ 0 ∷ 0 ∷ 0 ∷ 0 ∷ 0 ∷ 0 ∷ 0 ∷ 0 ∷ 0 ∷ 0 ∷ 0 ∷ 0 ∷ 0 ∷ 0 ∷ 0 ∷ []) slot ≡ false
+pub zero-bits : (n slot : ℕ) → bit_of_slot (replicate n 0) slot ≡ false
 unfolding bit_of_slot
-zero-bits slot = rw (zeros (slot / 64), bit_at-zero (slot % 64)) refl
+zero-bits n slot = rw (copies n (slot / 64), bit_at-zero (slot % 64)) refl
 
 -- ---- bits that are missing
 
-pub missing-more : (p : ℕ → Bool) (from back missing : ℕ) → from ≤ back
-    → missing ≡ count_below (λ k. not (p (from + k))) (back - from)
-    → missing + cond (p back) 0 1 ≡ count_below (λ k. not (p (from + k))) (back + 1 - from)
-missing-more p from back missing order e =
-    let more : back + 1 - from ≡ suc (back - from) = omega arith in
-    let at : from + (back - from) ≡ back = omega arith in
-    rw (more, count-suc (λ k. not (p (from + k))) (back - from), at, ← e) (turned (p back) missing)
+pub missing-run : (words : List ℕ) (slot count ones : ℕ) → get_or words (slot / 64) 0 < 2 ^ 64 → 1 ≤ count
+    → count ≤ slot % 64 + 1 → ones ≡ 2 ^ (slot % 64 + 1 - count + count) - 2 ^ (slot % 64 + 1 - count)
+    → count_ones (bit_and (2 ^ 64 - 1 - get_or words (slot / 64) 0) ones)
+    ≡ count_below (λ k. not (bit_of_slot words (slot - k))) count
+unfolding bit_of_slot
+missing-run words slot count ones fits some in_word run =
+    let word : ℕ = get_or words (slot / 64) 0 in
+    let low : ℕ = slot % 64 + 1 - count in
+    ap (λ (m : ℕ). count_ones (bit_and (2 ^ 64 - 1 - word) m)) run
+    ∙ run-lacked word low count fits (omega arith)
+    ∙ count-same (λ k. not (bit_at word (low + (count - 1 - k)) == 1))
+    (λ k. not (bit_at (get_or words ((slot - k) / 64) 0) ((slot - k) % 64) == 1)) count
+    (λ k b. same k (slot - k) ((slot - k) / 64) ((slot - k) % 64) (omega arith) (omega arith))
   where
-    turned : (b : Bool) (n : ℕ) → n + cond b 0 1 ≡ cond (not b) 1 0 + n
-    turned true n = omega arith
-    turned false n = omega arith
+    same : (k other at bit : ℕ) → at ≡ slot / 64 → bit ≡ slot % 64 + 1 - count + (count - 1 - k)
+        → not (bit_at (get_or words (slot / 64) 0) (slot % 64 + 1 - count + (count - 1 - k)) == 1)
+        ≡ not (bit_at (get_or words at 0) bit == 1)
+    same k other at bit e f = rw (e, f) refl
+
+-- within a word the slots go down as the distances grow
+slot-down : (slots head back k : ℕ) → back + k < slots → k ≤ slot_below slots head back % 64
+    → slot_below slots head (back + k) ≡ slot_below slots head back - k
+slot-down slots head back k within low = elim (cases_lt head back) [
+  | inl far ↦ slot-far slots head (back + k) (omega arith) ∙ (let at = slot-far slots head back far in omega (arith, at))
+  | inr near ↦
+      let at = slot-near slots head back near in
+      slot-near slots head (back + k) (omega (arith, at, low)) ∙ (omega (arith, at))
+]
+
+pub missing-more : (words : List ℕ) (slots head from back slot count missing more : ℕ) → from ≤ back
+    → back + count ≤ slots → slot ≡ slot_below slots head back → count ≤ slot % 64 + 1
+    → missing ≡ count_below (λ k. not (bit_below words slots head (from + k))) (back - from)
+    → more ≡ count_below (λ k. not (bit_of_slot words (slot - k))) count
+    → missing + more ≡ count_below (λ k. not (bit_below words slots head (from + k))) (back + count - from)
+missing-more words slots head from back slot count missing more order within at low e f =
+    let parts : back + count - from ≡ back - from + count = omega arith in
+    let split = count-split (λ k. not (bit_below words slots head (from + k))) (back - from) count in
+    let those : count_below (λ k. not (bit_below words slots head (from + (back - from + k)))) count
+    ≡ count_below (λ k. not (bit_of_slot words (slot - k))) count =
+    count-same (λ k. not (bit_below words slots head (from + (back - from + k)))) (λ k. not (bit_of_slot words (slot - k))) count
+    (λ k b. ap (λ (s : ℕ). not (bit_of_slot words s)) (there k b)) in
+    rw parts (omega (arith, split, those, e, f))
+  where
+    there : (k : ℕ) → k < count → slot_below slots head (from + (back - from + k)) ≡ slot - k
+    there k b =
+        ap (slot_below slots head) (omega arith) ∙ slot-down slots head back k (omega arith) (omega (arith, at, low))
+        ∙ ap (λ (s : ℕ). s - k) (sym at)

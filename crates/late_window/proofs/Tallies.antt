@@ -1,5 +1,5 @@
 -- How many of the numbers below n pass a test.
-use Rattle.std.proofs.Common.{◌≡◌, ℕ, zero, suc, ◌+◌, ◌<◌, ◌≤◌, inl, inr, Bool, true, false, cond, refl, sym, ◌∙◌, ap, arith, add-suc}
+use Rattle.std.proofs.Common.{◌≡◌, ℕ, zero, suc, ◌+◌, ◌-◌, ◌<◌, ◌≤◌, inl, inr, Bool, true, false, cond, refl, sym, ◌∙◌, ap, arith, add-suc}
 use Rattle.std.proofs.lemmas.Bool.{cases_eq}
 use Rattle.late_window.specs.Distances.{count_below}
 
@@ -58,6 +58,19 @@ count-first p zero = rw (count-suc p 0, count-zero p, count-zero (λ k. p (suc k
 count-first p (suc n) =
     let later = count-first p n in
     rw (count-suc p (suc n), count-suc (λ k. p (suc k)) n, later) (omega arith)
+
+-- from the last to the first
+pub count-reversed : (p : ℕ → Bool) (n : ℕ) → count_below p n ≡ count_below (λ k. p (n - 1 - k)) n
+count-reversed p zero = count-zero p ∙ sym (count-zero (λ k. p (0 - 1 - k)))
+count-reversed p (suc n) =
+    let last : cond {A = ℕ} (p (suc n - 1 - 0)) 1 0 ≡ cond {A = ℕ} (p n) 1 0 =
+    ap (λ (k : ℕ). cond {A = ℕ} (p k) 1 0) (omega arith) in
+    let others : count_below (λ k. p (n - 1 - k)) n ≡ count_below (λ k. p (suc n - 1 - suc k)) n =
+    count-same (λ k. p (n - 1 - k)) (λ k. p (suc n - 1 - suc k)) n (λ k b. ap p (omega arith)) in
+    let turned = count-first (λ k. p (suc n - 1 - k)) n in
+    let later = count-reversed p n in
+    let here = count-suc p n in
+    omega (arith, here, later, others, last, turned)
 
 -- one number passes q and not p, and else they agree
 pub count-one : (p q : ℕ → Bool) (j n : ℕ) → j < n → p j ≡ false → q j ≡ true

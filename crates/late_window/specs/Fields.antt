@@ -4,11 +4,12 @@ use Rattle.late_window.specs.Distances.{tabulated}
 use Rattle.late_window.specs.Ring.{bit_below}
 use Rattle.late_window.specs.Settled.{IsSettled, IsEmpty}
 use Rattle.late_window.specs.States.{WindowState}
+use Rattle.late_window.specs.declared.TheConstants.{MAX_WIDTH}
 use Rattle.late_window.specs.declared.window.Window.TheInside.{Inside}
 
 -- whether the number so far below the newest was counted, as the window's bits tell it
 abbrev pub held : Inside → ℕ → Bool
-held w back = bit_below w.recent.words w.recent.head back
+held w back = bit_below w.recent.words w.recent.slots w.recent.head back
 
 abbrev pub window_state : Inside → WindowState
 window_state w = record {
@@ -23,7 +24,8 @@ window_state w = record {
 -- what each window keeps
 pub record IsWindow (w : Inside) : Type 0 where
   pub width_from : 1 ≤ w.width
-  pub width_to : w.width ≤ 1024
+  pub width_to : w.width ≤ MAX_WIDTH
+  pub room : w.width ≤ w.recent.slots
   pub few : w.entered ≤ 2 ^ 62
   pub received_few : w.received ≤ w.entered
   pub newest_from : pos 0 ≤ℤ w.newest

@@ -5,6 +5,9 @@
 //! a number that doesn't wrap, as RFC 3550, appendix A.1, extends the sequence numbers of packets.
 #![tactic(auto)]
 
+/// The greatest width of a window, a multiple of 64.
+pub const MAX_WIDTH: u32 = 1024;
+
 mod entered;
 mod ring;
 mod side;

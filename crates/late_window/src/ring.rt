@@ -1,49 +1,66 @@
-ghost use Rattle.std.specs.Prelude.{◌≡◌, ℕ, ◌+◌, ◌-◌, ◌<◌, ◌≤◌, ◌==◌, ◌&&◌, ◌||◌, nat_le, not, false};
+ghost use Rattle.std.specs.Prelude.{◌≡◌, ℕ, ◌+◌, ◌-◌, ◌*◌, ◌%◌, ◌^◌, ◌<◌, ◌≤◌, ◌==◌, ◌&&◌, ◌||◌, nat_le, not, false};
 ghost use Rattle.late_window.specs.Distances.{count_below};
-ghost use Rattle.late_window.specs.Ring.{bit_below, slot_below};
+ghost use Rattle.late_window.specs.Ring.{bit_of_slot, slot_below, bit_below};
+ghost use Rattle.late_window.specs.declared.TheConstants.{MAX_WIDTH};
+ghost use Rattle.late_window.specs.declared.ring.TheConstants.{WORDS};
 
-/// How many numbers the bits tell of.
-const SLOTS: usize = 1024;
+use crate::MAX_WIDTH;
 
-/// Whether the newest number and the 1,023 below it were counted, a bit for each. The bits lie in a ring: the
-/// next number has the next slot, so that a bit stays where it is while newer numbers come.
+/// How many words have a bit for each number of the greatest width.
+const WORDS: usize = MAX_WIDTH as usize / 64;
+
+/// Whether the newest number and those below it were counted, a bit for each. The bits lie in a ring: the next number
+/// has the next slot, so that a bit stays where it is while newer numbers come. The ring has as many whole words as
+/// its width needs, so that a small one stays in one place.
 ///
 /// ```text
-///   slot      .. head-2    head-1    head    head+1       ..   modulo 1,024
-///   number    .. newest-2  newest-1  newest  newest-1023  ..
+///   slot      .. head-2    head-1    head    head+1              ..   modulo the number of slots
+///   number    .. newest-2  newest-1  newest  newest-(slots-1)    ..
 /// ```
 #[derive(Debug, Drop)]
 pub struct Ring {
-    words: [u64; 16],
+    words: [u64; WORDS],
+    /// How many slots there are.
+    slots: usize,
     /// The slot of the newest number.
     head: usize,
-    ghost in_ring: { head < 1024 },
+    ghost in_words: { slots ≤ 64 * WORDS },
+    ghost whole_words: { slots % 64 ≡ 0 },
+    ghost in_ring: { head < slots },
 }
 
 impl Ring {
-    /// No number was counted.
-    pub fn empty() -> Ring
-        ensures { (k : ℕ) → k < 1024 → bit_below result.words result.head k ≡ false }
+    /// No number was counted. There are slots for so many numbers at least.
+    pub fn empty(width: u32) -> Ring
+        requires from { 1 ≤ width }
+        requires to { width ≤ MAX_WIDTH }
+        ensures none { (k : ℕ) → k < result.slots → bit_below result.words result.slots result.head k ≡ false }
+        ensures room { width ≤ result.slots }
     {
         Ring {
-            words: [0; 16],
+            words: [0; WORDS],
+            slots: (width as usize + 63) / 64 * 64,
             head: 0,
         }
     }
 
     /// The slot of the number so far below the newest.
     fn slot(&self, back: usize) -> usize
-        requires { back < 1024 }
-        ensures value { result ≡ slot_below self.now.head back }
-        ensures in_ring { result < 1024 }
+        requires { back < self.now.slots }
+        ensures value { result ≡ slot_below self.now.slots self.now.head back }
+        ensures in_ring { result < self.now.slots }
     {
-        (self.head + SLOTS - back) % SLOTS
+        if back <= self.head {
+            self.head - back
+        } else {
+            self.head + self.slots - back
+        }
     }
 
     /// Whether the number so far below the newest was counted.
     pub fn has(&self, back: usize) -> bool
-        requires { back < 1024 }
-        ensures { result ≡ bit_below self.now.words self.now.head back }
+        requires { back < self.now.slots }
+        ensures { result ≡ bit_below self.now.words self.now.slots self.now.head back }
     {
         let slot = self.slot(back);
         self.words[slot / 64] >> (slot % 64) & 1 == 1
@@ -51,47 +68,80 @@ impl Ring {
 
     /// The number so far below the newest is counted.
     pub fn add(&mut self, back: usize)
-        requires { back < 1024 }
-        ensures { (k : ℕ) → k < 1024 → bit_below self.new.words self.new.head k
-            ≡ (k == back || bit_below self.old.words self.old.head k) }
+        requires { back < self.old.slots }
+        ensures added { (k : ℕ) → k < self.old.slots → bit_below self.new.words self.new.slots self.new.head k
+            ≡ (k == back || bit_below self.old.words self.old.slots self.old.head k) }
+        ensures slots { self.new.slots ≡ self.old.slots }
     {
         let slot = self.slot(back);
         self.words[slot / 64] = self.words[slot / 64] | 1 << (slot % 64);
     }
 
-    /// The next number is the newest, and isn't counted.
-    fn step(&mut self)
-        ensures { (k : ℕ) → k < 1024 → bit_below self.new.words self.new.head k
-            ≡ (nat_le 1 k && bit_below self.old.words self.old.head (k - 1)) }
-    {
-        let slot = (self.head + 1) % SLOTS;
-        self.words[slot / 64] = self.words[slot / 64] & !(1 << (slot % 64));
-        self.head = slot;
-    }
-
     /// The number so far above the newest is the newest, and isn't counted, nor those that are passed.
     pub fn advance(&mut self, step: usize)
-        requires { step < 1024 }
-        ensures { (k : ℕ) → k < 1024 → bit_below self.new.words self.new.head k
-            ≡ (nat_le step k && bit_below self.old.words self.old.head (k - step)) }
+        ensures moved { (k : ℕ) → k < self.old.slots → bit_below self.new.words self.new.slots self.new.head k
+            ≡ (nat_le step k && bit_below self.old.words self.old.slots self.old.head (k - step)) }
+        ensures slots { self.new.slots ≡ self.old.slots }
     {
-        for _passed in 0..step {
-            self.step();
+        let mut left = step;
+        while left > 0 {
+            left -= self.advance_in_word(left);
         }
+    }
+
+    /// The newest number moves on within the word of the next slot, as far as that goes but no further than `most`.
+    /// None of the numbers on the way is counted. Answers how far.
+    fn advance_in_word(&mut self, most: usize) -> usize
+        requires { 1 ≤ most }
+        ensures from { 1 ≤ result }
+        ensures to { result ≤ most }
+        ensures moved { (k : ℕ) → k < self.old.slots → bit_below self.new.words self.new.slots self.new.head k
+            ≡ (nat_le result k && bit_below self.old.words self.old.slots self.old.head (k - result)) }
+        ensures slots { self.new.slots ≡ self.old.slots }
+    {
+        let next = self.head + 1;
+        let slot = if next == self.slots { 0 } else { next };
+        let step = most.min(64 - slot % 64);
+        self.words[slot / 64] = self.words[slot / 64] & !ones_from(slot % 64, step);
+        self.head = slot + step - 1;
+        step
     }
 
     /// How many of the numbers from `from` up to and without `to` below the newest weren't counted.
     pub fn missing(&self, from: usize, to: usize) -> u32
         requires order { from ≤ to }
-        requires in_ring { to ≤ 1024 }
-        ensures { result ≡ count_below (λ k. not (bit_below self.now.words self.now.head (from + k))) (to - from) }
+        requires in_ring { to ≤ self.now.slots }
+        ensures { result ≡ count_below (λ k. not (bit_below self.now.words self.now.slots self.now.head (from + k)))
+            (to - from) }
     {
         let mut missing = 0;
-        for back in from..to {
-            if !self.has(back) {
-                missing += 1;
-            }
+        let mut back = from;
+        while back < to {
+            let slot = self.slot(back);
+            let count = (to - back).min(slot % 64 + 1);
+            missing += self.missing_in_word(slot, count);
+            back += count;
         }
         missing
     }
+
+    /// How many of so many slots, this one and those below it in its word, have no bit.
+    fn missing_in_word(&self, slot: usize, count: usize) -> u32
+        requires in_ring { slot < self.now.slots }
+        requires from { 1 ≤ count }
+        requires in_word { count ≤ slot % 64 + 1 }
+        ensures { result ≡ count_below (λ k. not (bit_of_slot self.now.words (slot - k))) count }
+    {
+        let ones = ones_from(slot % 64 + 1 - count, count);
+        (!self.words[slot / 64] & ones).count_ones()
+    }
+}
+
+/// A word with so many ones, from this bit up.
+fn ones_from(low: usize, count: usize) -> u64
+    requires from { 1 ≤ count }
+    requires in_word { low + count ≤ 64 }
+    ensures { result ≡ 2 ^ (low + count) - 2 ^ low }
+{
+    u64::MAX >> (64 - count) << low
 }

@@ -6,6 +6,7 @@ ghost use Rattle.late_window.specs.Settled.{IsSettled};
 ghost use Rattle.late_window.specs.States.{StandsFor, is_recent, issued_count, pending_count, parts_of, newest_mark_of};
 ghost use Rattle.late_window.specs.Answers.{answer_of};
 ghost use Rattle.late_window.specs.Steps.{Begins, Advances, Fills, Passes};
+ghost use Rattle.late_window.specs.declared.TheConstants.{MAX_WIDTH};
 
 use crate::ring::Ring;
 use crate::side::{Side, side_of};
@@ -53,10 +54,10 @@ impl Model for Window {
 }
 
 impl Window {
-    /// An empty window. The width is from 1 to 1,024.
+    /// An empty window. The width is from 1 to `MAX_WIDTH`.
     pub fn open(width: u32) -> Window
         requires width_from { 1 ≤ width }
-        requires width_to { width ≤ 1024 }
+        requires width_to { width ≤ MAX_WIDTH }
         ensures stands { StandsFor result [] }
         ensures width { result.width ≡ width }
         ensures entered { result.entered ≡ 0 }
@@ -68,7 +69,7 @@ impl Window {
             pending: 0,
             newest: 0,
             span: 0,
-            recent: Ring::empty(),
+            recent: Ring::empty(width),
         }
     }
 
@@ -254,18 +255,20 @@ impl Window {
 //                    falls out        stays            passed
 fn move_on(recent: &mut Ring, width: u32, span: u128, pending: u32, step: u32) -> u32
     requires width_from { 1 ≤ width }
-    requires width_to { width ≤ 1024 }
+    requires width_to { width ≤ MAX_WIDTH }
+    requires room { width ≤ recent.old.slots }
     requires ahead { 0 < step }
     requires near { step < 2 ^ 31 }
-    requires settled { IsSettled (bit_below recent.old.words recent.old.head) width span pending }
-    ensures bits { (k : ℕ) → k < width → bit_below recent.new.words recent.new.head k
-        ≡ (k == 0 || (nat_le step k && bit_below recent.old.words recent.old.head (k - step))) }
-    ensures pending { result
-        ≡ count_below (λ k. not (bit_below recent.new.words recent.new.head k)) (min (span + step) width) }
+    requires settled { IsSettled (bit_below recent.old.words recent.old.slots recent.old.head) width span pending }
+    ensures bits { (k : ℕ) → k < width → bit_below recent.new.words recent.new.slots recent.new.head k
+        ≡ (k == 0 || (nat_le step k && bit_below recent.old.words recent.old.slots recent.old.head (k - step))) }
+    ensures slots { recent.new.slots ≡ recent.old.slots }
+    ensures pending { result ≡ count_below (λ k. not (bit_below recent.new.words recent.new.slots recent.new.head k))
+        (min (span + step) width) }
     ensures few { result + 1 ≤ pending + step }
 {
     if step >= width {
-        *recent = Ring::empty();
+        recent.advance(width as usize);
         recent.add(0);
         return width - 1;
     }

@@ -17,7 +17,7 @@ invariant_of-self c =
     (advanced c.self.inside _ c.args.step c.self.invariant few some c.requires.ahead c.requires.near refl refl refl
     (sum-fits c.self.inside.newest c.self.inside.entered c.args.step c.self.invariant.newest_from
     c.self.invariant.newest_to few c.requires.near)
-    refl c.move_on-self-inside.ensures.bits c.move_on-self-inside.ensures.pending
+    refl c.move_on-self-inside.ensures.slots c.move_on-self-inside.ensures.bits c.move_on-self-inside.ensures.pending
     c.move_on-self-inside.ensures.few).keeps
 
 pub returns-clause-advances : goal.returns-clause-advances
@@ -36,5 +36,5 @@ returns-clause-advances c =
     c.requires.near refl refl refl
     (sum-fits c.self.inside.newest c.self.inside.entered c.args.step c.self.invariant.newest_from
     c.self.invariant.newest_to few c.requires.near)
-    refl c.move_on-self-inside.ensures.bits c.move_on-self-inside.ensures.pending
+    refl c.move_on-self-inside.ensures.slots c.move_on-self-inside.ensures.bits c.move_on-self-inside.ensures.pending
     c.move_on-self-inside.ensures.few).advances

@@ -10,7 +10,7 @@ invariant_of-self c =
     let few : c.self.inside.entered < 2 ^ 62 = rw (← c.self.view_is) at c.requires.few in
     let none : c.self.inside.received ≡ 0 = rw (← c.self.view_is) at c.requires.none in
     (begun c.self.inside _ c.args.mark c.self.invariant (omega arith) few none refl refl refl refl
-    (omega (arith, ints)) refl c.add.ensures).keeps
+    (omega (arith, ints)) refl c.add.ensures.slots c.add.ensures.added).keeps
 
 pub returns-clause-begins : goal.returns-clause-begins
 returns-clause-begins c =
@@ -23,4 +23,4 @@ returns-clause-begins c =
       recent = c.add.new.self;
     } in
     rw (← c.self.view_is) (begun c.self.inside new c.args.mark c.self.invariant (omega arith) few none refl refl refl refl
-    (omega (arith, ints)) refl c.add.ensures).begins
+    (omega (arith, ints)) refl c.add.ensures.slots c.add.ensures.added).begins

@@ -10,7 +10,7 @@ invariant_of-self c =
     let within : c.args.back < c.self.inside.width = rw (← c.self.view_is) at c.requires.within in
     let beyond : c.self.inside.span < c.args.back = rw (← c.self.view_is) at c.requires.beyond in
     (extended c.self.inside _ c.args.back c.self.invariant few some within beyond refl refl refl refl refl
-    c.add.ensures refl).keeps
+    c.add.ensures.slots c.add.ensures.added refl).keeps
 
 pub returns-clause-fills : goal.returns-clause-fills
 returns-clause-fills c =
@@ -26,4 +26,4 @@ returns-clause-fills c =
       recent = c.add.new.self;
     } in
     rw (← c.self.view_is) (extended c.self.inside new c.args.back c.self.invariant few some within beyond refl refl
-    refl refl refl c.add.ensures refl).fills
+    refl refl refl c.add.ensures.slots c.add.ensures.added refl).fills

@@ -26,7 +26,7 @@ invariant_of-self c =
     sym (recent-held c.self.inside c.args.back within)
     ∙ ap (λ (s : WindowState). is_recent s c.args.back) c.self.view_is ∙ c.requires.new in
     (filled c.self.inside _ c.args.back c.self.invariant few some within between out refl refl refl refl refl
-    c.add.ensures refl).keeps
+    c.add.ensures.slots c.add.ensures.added refl).keeps
 
 pub returns-clause-fills : goal.returns-clause-fills
 returns-clause-fills c =
@@ -44,4 +44,4 @@ returns-clause-fills c =
       recent = c.add.new.self;
     } in
     rw (← c.self.view_is) (filled c.self.inside new c.args.back c.self.invariant few some within between out refl
-    refl refl refl refl c.add.ensures refl).fills
+    refl refl refl refl c.add.ensures.slots c.add.ensures.added refl).fills

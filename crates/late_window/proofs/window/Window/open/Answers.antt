@@ -11,6 +11,6 @@ returns-clause-stands c = record {
     least_is = refl;
     recent_are = λ k within.
         recent-held (record { width = c.args.width; entered = 0; received = 0; pending = 0; newest = _; span = 0; recent = c.empty.result }) k within
-        ∙ c.empty.ensures k (omega arith);
+        ∙ c.empty.ensures.none k (omega (arith, c.empty.ensures.room));
   };
 }

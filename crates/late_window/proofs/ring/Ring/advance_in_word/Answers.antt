@@ -1,0 +1,15 @@
+use Rattle.std.proofs.Common.{rules, arith, inl, inr, ◌<◌}
+use Rattle.late_window.proofs.RingBits.{IsNext, below-moved}
+use Rattle.late_window.proofs.ring.Ring.advance_in_word.Goals as goal
+use Rattle.late_window.proofs.ring.Ring.advance_in_word.Goals.{then-next-self, else-next-self}
+
+pub returns-clause-moved : goal.returns-clause-moved
+returns-clause-moved c = λ k within.
+    let inside : c.args.self.now.head < c.args.self.now.slots = c.args.self.now.in_ring in
+    let next : IsNext c.args.self.now.slots c.args.self.now.head c.if-next-self.slot = elim c.if-next-self.branch [
+      | then-next-self w ↦ inr (w.if-next-self.true, w.slot-is)
+      | else-next-self w ↦ inl (omega arith, w.slot-is)
+    ] in
+    below-moved c.args.self.now.words c.args.self.now.slots c.args.self.now.head c.if-next-self.slot c.min-step.result
+    c.ones_from.result k (search rules) c.args.self.now.in_words inside next (omega arith) (omega arith)
+    c.ones_from.ensures within

@@ -1,5 +1,0 @@
-pub mod Numbers
-pub mod Recent
-pub mod Kept
-pub mod Standing
-pub mod Computed
