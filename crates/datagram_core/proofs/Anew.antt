@@ -4,13 +4,16 @@ use Rattle.std.proofs.lemmas.List.{length-append}
 use Rattle.wire_spec.specs.Heads.{Head, datagram_tree}
 use Rattle.wire_spec.specs.Shapes.{Tree, Trees, none, ◌&◌}
 use Rattle.wire_spec.specs.Spelling.{spell, spell_all}
-use Rattle.data_format.specs.Trees.{frame_tree, frame_trees}
+use Rattle.data_format.specs.Trees.{frame_trees}
 use Rattle.data_format.specs.Views.{FrameView}
-use Rattle.datagram_views.specs.Tables.{samples_read}
+use Rattle.datagram_core.specs.Samples.{sample_tree, IsItself, HasFormat, IsSampleOf}
+use Rattle.datagram_core.specs.Tables.{samples_read}
+use Rattle.datagram_core.specs.declared.sample.Sample.{Sample}
+use Rattle.datagram_core.specs.declared.sample.Sample.TheVariants as samples
 use Rattle.datagram_core.specs.declared.writer.DatagramWriter.{DatagramWriter}
 use Rattle.datagram_core.specs.Written.{and_then, joined}
 use Rattle.datagram_core.specs.Writers.{most_of, IsClosed, Has, SameRoom}
-use Rattle.datagram_core.proofs.Filling.{joined_next, joined_none, same_room}
+use Rattle.datagram_core.proofs.Filling.{joined_next, joined_none, own_room, same_room}
 use Rattle.datagram_core.proofs.Sizes.{joined_size, datagram_size, one_more}
 
 -- of all the samples those in front are written, and these are left
@@ -23,20 +26,30 @@ pub record IsWriting (start w : DatagramWriter) (all rest : Trees) : Type 0 wher
 
 pub writing_start : (w : DatagramWriter) (all : Trees) → IsClosed w → IsWriting w w all all
 writing_start w all closed = record {
-  room = record { same = refl; size = refl };
+  room = own_room w;
   front = none;
   parts = refl;
   closed = closed;
   has = λ h has. has;
 }
 
--- the next of the frames is this one
-pub writing_next : (start w : DatagramWriter) (all : Trees) (old new : List FrameView) (f : FrameView)
-    → IsWriting start w all (frame_trees samples_read old) → old ≡ f ∷ new
-    → IsWriting start w all (frame_tree samples_read f & frame_trees samples_read new)
-writing_next start w all old new f writing parts =
+-- the next of the frames is this sample
+pub writing_next : (start w : DatagramWriter) (all : Trees) (old new : List FrameView) (s : Sample)
+    → IsWriting start w all (frame_trees samples_read old)
+    → ((f : FrameView) × (old ≡ f ∷ new) × IsSampleOf f s)
+    → IsWriting start w all (sample_tree s & frame_trees samples_read new)
+writing_next start w all old new s writing (f, parts, of) =
+    let T = samples_read in
     let P : Trees → Type 0 = IsWriting start w all in
-    subst P (ap (λ (fs : List FrameView). frame_trees samples_read fs) parts) writing
+    subst P (ap (λ (fs : List FrameView). frame_trees T fs) parts ∙ ap (λ t. t & frame_trees T new) (sym of.value)) writing
+
+-- a sample that is kept as its frame has the format of a word
+pub has_format : (f : FrameView) (s : Sample) → IsItself f s → HasFormat s
+has_format f (samples.Flow s) h = tt
+has_format f (samples.Counters s) h = tt
+has_format f (samples.FlowX s) h = tt
+has_format f (samples.CountersX s) h = tt
+has_format f (samples.Other frame) h = h.1
 
 pub writing_step : (start now new : DatagramWriter) (all : Trees) (t : Tree) (rest : Trees)
     → IsWriting start now all (t & rest) → SameRoom now new → IsClosed new

@@ -6,12 +6,14 @@ use Rattle.wire_spec.specs.Heads.{Head, datagram_tree}
 use Rattle.wire_spec.specs.Shapes.{Tree, Trees, none, ◌&◌}
 use Rattle.wire_spec.specs.Spelling.{padded, spell, spell_all}
 use Rattle.xdr_words.specs.declared.writer.OutFull.{OutFull}
-use Rattle.data_format.specs.Trees.{frame_tree, frame_trees}
+use Rattle.xdr_words.proofs.Puts.{alike_behind}
+use Rattle.data_format.specs.Trees.{frame_trees}
 use Rattle.data_format.specs.Views.{FrameView}
-use Rattle.datagram_views.specs.Records.{table_of}
+use Rattle.datagram_core.specs.Records.{record_tree, table_of, IsRecordOf}
+use Rattle.datagram_core.specs.declared.records.Record.{Record}
 use Rattle.datagram_core.specs.Written.{Begun, and_then, joined, filled, begun_bytes, with_record, closed_sample}
-use Rattle.datagram_core.specs.Writers.{most_of, left_of, OfKind, IsOpen, IsOpenFor, HasBegun, Has, SameRoom, Adds}
-use Rattle.datagram_views.specs.declared.records.RecordKind.{RecordKind}
+use Rattle.datagram_core.specs.Writers.{most_of, left_of, KeepsBehind, OfKind, IsOpen, IsOpenFor, HasBegun, Has, SameRoom, Adds}
+use Rattle.datagram_core.specs.declared.records.RecordKind.{RecordKind}
 use Rattle.datagram_core.specs.declared.writer.DatagramWriter.{DatagramWriter}
 use Rattle.datagram_core.specs.declared.writer.OpenSample.{OpenSample}
 use Rattle.datagram_core.proofs.Sizes.{joined_size, one_more, inside, closed_least, closed_size}
@@ -43,12 +45,29 @@ begun_sample kind w h = sample w.begun h
 -- ---- the room of the writer
 
 pub same_room : (a b c : DatagramWriter) → SameRoom a b → SameRoom b c → SameRoom a c
-same_room a b c one two = record { same = two.same ∙ one.same; size = two.size ∙ one.size }
+same_room a b c one two = record {
+  same = two.same ∙ one.same;
+  size = two.size ∙ one.size;
+  more = omega (arith, one.more, two.more);
+  behind = two.behind ∙ alike_behind b.len c.len b.room.now a.room.now two.more one.behind;
+}
+
+pub own_room : (a : DatagramWriter) → SameRoom a a
+own_room a = record { same = refl; size = refl; more = omega arith; behind = refl }
+
+-- what a writer keeps behind what is written, those after it keep
+pub kept_on : (bytes : List ℕ) (a b : DatagramWriter) → KeepsBehind bytes a → SameRoom a b → KeepsBehind bytes b
+kept_on bytes a b one two = two.behind ∙ alike_behind a.len b.len a.room.now bytes two.more one
 
 pub adds_room : (a b : DatagramWriter) (r : Result Unit OutFull) (n : ℕ) → Adds a b r n → SameRoom a b
-adds_room a b (Ok u) n h = record { same = h.same; size = h.size }
+adds_room a b (Ok u) n h = record {
+  same = h.same;
+  size = h.size;
+  more = omega (arith, h.fits, h.left, h.size, a.within, a.most, b.within, b.most);
+  behind = h.behind;
+}
 adds_room a b (Err e) n h =
-    let P : DatagramWriter → Type 0 = SameRoom a in subst P (sym h.same) (record { same = refl; size = refl })
+    let P : DatagramWriter → Type 0 = SameRoom a in subst P (sym h.same) (own_room a)
 
 pub if_err : {X E Q : Type 0} (r : Result X E) → Q → IfErr r (λ e. Q)
 if_err (Ok u) q = tt
@@ -67,7 +86,7 @@ pub record IsFilling (start now : DatagramWriter) (kind : RecordKind) (all rest 
 
 pub filling_start : (w : DatagramWriter) (kind : RecordKind) (all : Trees) → IsOpenFor kind w → IsFilling w w kind all all
 filling_start w kind all begun = record {
-  room = record { same = refl; size = refl };
+  room = own_room w;
   begun = begun;
   front = none;
   parts = refl;
@@ -84,20 +103,24 @@ pub filling_step : (start now new : DatagramWriter) (kind : RecordKind) (all : T
     → ((h : Head) (samples : Trees) (s : Begun) → HasBegun now h samples s → HasBegun new h samples (with_record s t))
     → IsFilling start new kind all rest
 filling_step start now new kind all t rest f room begun pushed = record {
-  room = record { same = room.same ∙ f.room.same; size = room.size ∙ f.room.size };
+  room = same_room start now new f.room room;
   begun = begun;
   front = and_then f.front t;
   parts = joined_next f.front t rest ∙ f.parts;
   has = λ h samples s has empty. pushed h samples (filled s f.front) (f.has h samples s has empty);
 }
 
--- the next of the frames is this one
-pub filling_next : (start now : DatagramWriter) (kind : RecordKind) (all : Trees) (old new : List FrameView) (f : FrameView)
-    → IsFilling start now kind all (frame_trees (table_of kind) old) → old ≡ f ∷ new
-    → IsFilling start now kind all (frame_tree (table_of kind) f & frame_trees (table_of kind) new)
-filling_next start now kind all old new f filling parts =
-    let P : Trees → Type 0 = IsFilling start now kind all in
-    subst P (ap (λ (fs : List FrameView). frame_trees (table_of kind) fs) parts) filling
+-- the next of the frames is this record
+pub filling_next : (start now : DatagramWriter) (kind first : RecordKind) (all : Trees) (old new : List FrameView) (r : Record)
+    → IsFilling start now first all (frame_trees (table_of first) old) → kind ≡ first
+    → ((f : FrameView) × (old ≡ f ∷ new) × IsRecordOf kind f r)
+    → IsFilling start now first all (record_tree r & frame_trees (table_of first) new)
+filling_next start now kind first all old new r filling same (f, parts, of) =
+    let T = table_of first in
+    let P : Trees → Type 0 = IsFilling start now first all in
+    let Q : RecordKind → Type 0 = λ k. IsRecordOf k f r in
+    let this : IsRecordOf first f r = subst Q same of in
+    subst P (ap (λ (fs : List FrameView). frame_trees T fs) parts ∙ ap (λ t. t & frame_trees T new) (sym this.value)) filling
 
 -- how many bytes there are
 begun_size : (w : DatagramWriter) (h : Head) (ts : Trees) (s : Begun) → HasBegun w h ts s

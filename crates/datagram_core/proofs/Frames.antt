@@ -7,12 +7,12 @@ use Rattle.wire_spec.specs.Spelling.{spell}
 use Rattle.xdr_words.specs.declared.writer.Out.{Out}
 use Rattle.xdr_words.specs.declared.writer.OutFull.{OutFull}
 use Rattle.xdr_words.specs.Written.{room_left, Appends, Puts}
-use Rattle.datagram_views.specs.declared.records.Record.{Record}
-use Rattle.datagram_views.specs.declared.records.Record.TheVariants as records
-use Rattle.datagram_views.specs.declared.records.RecordKind.{RecordKind}
-use Rattle.datagram_views.specs.declared.records.RecordKind.TheVariants as kinds
-use Rattle.datagram_views.specs.Records.{record_tree}
-use Rattle.datagram_views.specs.Kinds.{HasKind}
+use Rattle.datagram_core.specs.declared.records.Record.{Record}
+use Rattle.datagram_core.specs.declared.records.Record.TheVariants as records
+use Rattle.datagram_core.specs.declared.records.RecordKind.{RecordKind}
+use Rattle.datagram_core.specs.declared.records.RecordKind.TheVariants as kinds
+use Rattle.datagram_core.specs.Records.{record_tree}
+use Rattle.datagram_core.specs.Kinds.{HasKind}
 use Rattle.datagram_core.specs.Written.{record_format, record_body, FormatFits}
 use Rattle.datagram_core.proofs.Puts.{last_of_four}
 

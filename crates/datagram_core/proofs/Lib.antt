@@ -1,3 +1,12 @@
+pub mod Whole
+pub mod Stand
+pub mod Rows
+pub mod RecordRows
+pub mod RecordFrames
+pub mod Counts
+pub mod Again
+pub mod Unchecked
+pub mod SampleHeads
 pub mod Puts
 pub mod Writing
 pub mod Frames

@@ -13,9 +13,9 @@ use Rattle.rec_extended.specs.RouteContents.{router_content, gateway_content, pa
 use Rattle.rec_counters.specs.Contents.{interface_content, ethernet_content as counted_content, vlan_content}
 use Rattle.as_paths.specs.WordLists.{word_trees}
 use Rattle.as_paths.specs.Paths.{segment_trees}
-use Rattle.datagram_views.specs.declared.records.Record.{Record}
-use Rattle.datagram_views.specs.declared.records.Record.TheVariants as records
-use Rattle.datagram_views.specs.Records.{record_tree}
+use Rattle.datagram_core.specs.declared.records.Record.{Record}
+use Rattle.datagram_core.specs.declared.records.Record.TheVariants as records
+use Rattle.datagram_core.specs.Records.{record_tree}
 use Rattle.datagram_core.specs.Written.{record_body, SlicesFit}
 use Rattle.datagram_core.proofs.Frames.{frame_size}
 use Rattle.datagram_core.proofs.Writing.{be}

@@ -7,7 +7,7 @@ use Rattle.wire_spec.specs.Heads.{Head, address_tree, datagram_tree}
 use Rattle.wire_spec.specs.Padding.{padding_of}
 use Rattle.wire_spec.specs.Shapes.{Tree, Trees, none, ◌&◌, count_of}
 use Rattle.wire_spec.specs.Spelling.{padded, counted, spell, spell_all}
-use Rattle.datagram_views.specs.Heads.{head_trees}
+use Rattle.datagram_core.specs.Heads.{head_trees}
 use Rattle.datagram_core.specs.Written.{patch, and_then, Begun, begun_bytes, closed_sample}
 
 abbrev pub be : ℕ → List ℕ

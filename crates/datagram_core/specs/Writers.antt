@@ -1,12 +1,12 @@
 -- A writer of one datagram, and what its calls do.
-use Rattle.std.specs.Prelude.{◌≡◌, ℕ, ◌+◌, ◌-◌, ◌<◌, ◌≤◌, min, List, ◌++◌, length, take, Result, Ok, Err, is_some, true, false, Option, Some, None}
+use Rattle.std.specs.Prelude.{◌≡◌, ℕ, ◌+◌, ◌-◌, ◌<◌, ◌≤◌, min, List, ◌++◌, length, take, drop, Result, Ok, Err, is_some, true, false, Option, Some, None}
 use Rattle.wire_spec.specs.Heads.{Head, datagram_tree}
 use Rattle.wire_spec.specs.Shapes.{Trees, count_of}
 use Rattle.wire_spec.specs.Spelling.{spell, spell_all}
 use Rattle.xdr_words.specs.declared.writer.OutFull.{OutFull}
-use Rattle.datagram_views.specs.Heads.{head_trees}
+use Rattle.datagram_core.specs.Heads.{head_trees}
 use Rattle.datagram_core.specs.Written.{Begun, begun_bytes}
-use Rattle.datagram_views.specs.declared.records.RecordKind.{RecordKind}
+use Rattle.datagram_core.specs.declared.records.RecordKind.{RecordKind}
 use Rattle.datagram_core.specs.declared.writer.DatagramWriter.{DatagramWriter}
 use Rattle.datagram_core.specs.declared.writer.OpenSample.{OpenSample}
 
@@ -22,10 +22,16 @@ most_of w = min 65535 (length w.room.now)
 abbrev pub left_of : DatagramWriter → ℕ
 left_of w = most_of w - w.len
 
--- both write into the same room, which has the same size
+-- behind what is written, the room has the bytes that these have there
+abbrev pub KeepsBehind : List ℕ → DatagramWriter → Type 0
+KeepsBehind bytes w = drop w.len w.room.now ≡ drop w.len bytes
+
+-- both write into the same room, which has the same size; no less is written, and the bytes behind it are as they were
 pub record SameRoom (old new : DatagramWriter) : Type 0 where
   pub same : new.room.ghost_name ≡ old.room.ghost_name
   pub size : length new.room.now ≡ length old.room.now
+  pub more : old.len ≤ new.len
+  pub behind : KeepsBehind old.room.now new
 
 -- a sample is begun, or none is
 abbrev pub IsOpen : DatagramWriter → Type 0
@@ -63,12 +69,13 @@ pub record HasBegun (w : DatagramWriter) (h : Head) (samples : Trees) (s : Begun
 
 -- ---- calls
 
--- n bytes more were written into the same room
+-- n bytes more were written into the same room, and the bytes behind them are as they were
 pub record Grows (old new : DatagramWriter) (n : ℕ) : Type 0 where
   pub same : new.room.ghost_name ≡ old.room.ghost_name
   pub size : length new.room.now ≡ length old.room.now
   pub fits : n ≤ left_of old
   pub left : left_of new + n ≡ left_of old
+  pub behind : KeepsBehind old.room.now new
 
 -- n bytes don't fit, and nothing changed
 pub record Stays (old new : DatagramWriter) (e : OutFull) (n : ℕ) : Type 0 where

@@ -5,11 +5,9 @@ use Rattle.wire_spec.specs.Shapes.{Tree, known, Trees, none, ◌&◌}
 use Rattle.wire_spec.specs.Members.{with_last_tree}
 use Rattle.wire_spec.specs.Spelling.{spell_all}
 use Rattle.data_format.specs.declared.heads.Form.{Form}
-use Rattle.data_format.specs.declared.heads.Form.TheVariants.{Compact}
 use Rattle.data_format.specs.declared.heads.FlowHead.{FlowHead}
 use Rattle.data_format.specs.declared.heads.CountersHead.{CountersHead}
-use Rattle.data_format.specs.Samples.{IsFlowHead, IsCountersHead, flow_trees, counters_trees}
-use Rattle.data_format.specs.Trees.{AllPass}
+use Rattle.data_format.specs.Samples.{flow_trees, counters_trees}
 use Rattle.data_format.specs.Views.{IsFormat, format_word}
 use Rattle.data_format.specs.Records.{record_bytes}
 use Rattle.rec_headers.specs.Contents as headers
@@ -19,10 +17,9 @@ use Rattle.rec_extended.specs.RouteContents.{path_of, communities_of}
 use Rattle.rec_counters.specs.Contents as counters
 use Rattle.as_paths.specs.WordLists.{word_trees}
 use Rattle.as_paths.specs.Paths.{segment_trees}
-use Rattle.datagram_views.specs.Kinds.{flow_format, counters_format, IsUnreadSample}
-use Rattle.datagram_views.specs.Tables.{flow_records_read, counter_records_read}
-use Rattle.datagram_views.specs.declared.records.Record.{Record}
-use Rattle.datagram_views.specs.declared.records.Record.TheVariants.{
+use Rattle.datagram_core.specs.Kinds.{flow_format, counters_format}
+use Rattle.datagram_core.specs.declared.records.Record.{Record}
+use Rattle.datagram_core.specs.declared.records.Record.TheVariants.{
   RawHeader,
   Ethernet,
   Ipv4,
@@ -35,10 +32,8 @@ use Rattle.datagram_views.specs.declared.records.Record.TheVariants.{
   VlanCounters,
   Other,
 }
-use Rattle.datagram_views.specs.declared.records.RecordKind.{RecordKind}
-use Rattle.datagram_views.specs.declared.records.RecordKind.TheVariants as kinds
-use Rattle.datagram_views.specs.declared.sample.Sample.{Sample}
-use Rattle.datagram_views.specs.declared.sample.Sample.TheVariants as samples
+use Rattle.datagram_core.specs.declared.records.RecordKind.{RecordKind}
+use Rattle.datagram_core.specs.declared.records.RecordKind.TheVariants as kinds
 
 -- some values and one more
 abbrev pub and_then : Trees → Tree → Trees
@@ -82,25 +77,18 @@ closed_sample s tail = known s.format (Tree.structure (with_last_tree s.head (Tr
 
 -- ---- bytes in a room
 
--- a piece stands behind the first `len` bytes, up to n
+-- a piece stands behind the first `len` bytes, up to n, and the bytes from n on are as they were
 pub record Extends (old new : List ℕ) (len n : ℕ) (piece : List ℕ) : Type 0 where
   pub size : length new ≡ length old
   pub ends : n ≡ len + length piece
   pub whole : take n new ≡ take len old ++ piece
+  pub behind : drop n new ≡ drop n old
 
 -- a piece in place of as many bytes
 abbrev pub patch : ℕ → List ℕ → List ℕ → List ℕ
 patch place piece x = take place x ++ piece ++ drop (place + length piece) x
 
 -- ---- records that are to be written
-
--- a sample as it is given: its head has its form, its records are sound, and what is kept as a frame isn't read
-abbrev pub IsWritten : Sample → Type 0
-IsWritten (samples.Flow s) = IsFlowHead Compact s.head × AllPass flow_records_read s.frames
-IsWritten (samples.Counters s) = IsCountersHead Compact s.head × AllPass counter_records_read s.frames
-IsWritten (samples.FlowX s) = AllPass flow_records_read s.frames
-IsWritten (samples.CountersX s) = AllPass counter_records_read s.frames
-IsWritten (samples.Other frame) = IsFormat frame.format × IsUnreadSample (format_word frame.format)
 
 -- each of its slices has at most 65,535 bytes
 abbrev pub SlicesFit : Record → Type 0

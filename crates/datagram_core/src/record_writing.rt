@@ -3,11 +3,11 @@ ghost use Rattle.std.specs.Prelude.{◌≡◌, ◌≤◌, ◌%◌, length};
 ghost use Rattle.wire_spec.specs.Spelling.{spell};
 ghost use Rattle.xdr_words.specs.Written.{Puts};
 ghost use Rattle.data_format.specs.Views.{format_word};
-ghost use Rattle.datagram_views.specs.Records.{record_tree};
+ghost use Rattle.datagram_core.specs.Records.{record_tree};
 ghost use Rattle.datagram_core.specs.Written.{SlicesFit, FormatFits, record_format, record_body};
 
+use crate::Record;
 use crate::writer_parts::{address_length, size_of_array};
-use datagram_views::Record;
 use xdr_words::{Out, OutFull};
 
 /// The word of the format of a record.

@@ -7,8 +7,8 @@ use crate::writer_appends::{
     patch_word,
 };
 use crate::writer_parts::{counters_length, flow_length, front_length};
+use crate::{DatagramHead, Record, RecordKind};
 use data_format::{CountersHead, FlowHead, Form, Format};
-use datagram_views::{DatagramHead, Record, RecordKind};
 use xdr_words::OutFull;
 
 /// The most bytes that a datagram has.
@@ -30,7 +30,7 @@ pub(crate) struct OpenSample {
 /// A writer of one datagram into borrowed room (sFlow Version 5, section 5): first its head, then sample by sample, and
 /// in a sample record by record. It uses at most the first 65,535 bytes of the room. While no sample is begun, what is
 /// written is a whole datagram. Each call appends a whole piece, or answers `OutFull` exactly where the piece doesn't
-/// fit, and then the writer and its room are as they were. It takes no memory.
+/// fit, and then the writer and its room are as they were. The bytes behind what is written stay. It takes no memory.
 #[derive(Drop)]
 pub struct DatagramWriter<'b> {
     room: &'b mut [u8],
@@ -49,25 +49,26 @@ pub struct DatagramWriter<'b> {
 }
 
 impl<'b> DatagramWriter<'b> {
-    ghost use Rattle.std.specs.Prelude.{◌-◌, min, IfOk, IfErr, [], IsOk, is_some, take, Some};
+    ghost use Rattle.std.specs.Prelude.{◌-◌, min, IfOk, IfErr, [], IsOk, is_some, take, drop, List, ℕ, Some};
     ghost use Rattle.wire_spec.specs.Heads.{Head, datagram_tree};
     ghost use Rattle.wire_spec.specs.Shapes.{Tree, Trees, none, other};
     ghost use Rattle.wire_spec.specs.Spelling.{spell, padded};
     ghost use Rattle.data_format.specs.Samples.{IsFlowHead, IsCountersHead};
     ghost use Rattle.data_format.specs.Views.{IsFormat, format_word};
-    ghost use Rattle.datagram_views.specs.Heads.{head_of};
-    ghost use Rattle.datagram_views.specs.Records.{record_tree};
-    ghost use Rattle.datagram_views.specs.Kinds.{HasKind, IsUnreadSample};
+    ghost use Rattle.datagram_core.specs.Heads.{head_of};
+    ghost use Rattle.datagram_core.specs.Records.{record_tree};
+    ghost use Rattle.datagram_core.specs.Kinds.{HasKind, IsUnreadSample};
     ghost use Rattle.datagram_core.specs.Written.{Begun, and_then, begun_flow, begun_counters, begun_bytes, with_record, closed_sample, SlicesFit};
-    ghost use Rattle.datagram_core.specs.Writers.{so_far, left_of, IsOpen, IsClosed, IsOpenFor, Has, HasBegun, Adds};
-    ghost use Rattle.datagram_views.specs.declared.records.RecordKind.{RecordKind};
-    ghost use Rattle.datagram_views.specs.declared.records.RecordKind.TheVariants.{Flow, Counters};
+    ghost use Rattle.datagram_core.specs.Writers.{so_far, left_of, KeepsBehind, IsOpen, IsClosed, IsOpenFor, Has, HasBegun, Adds};
+    ghost use Rattle.datagram_core.specs.declared.records.RecordKind.{RecordKind};
+    ghost use Rattle.datagram_core.specs.declared.records.RecordKind.TheVariants.{Flow, Counters};
 
     /// Writes this head and a count of 0 samples.
     pub fn begin(room: &'b mut [u8], head: &DatagramHead) -> Result<DatagramWriter<'b>, OutFull>
         ensures same { IfOk result (λ w. w.room.ghost_name ≡ room.entry.ghost_name) }
         ensures has { IfOk result (λ w. Has w (head_of head.now) none) }
         ensures size { IfOk result (λ w. length w.room.now ≡ length room.old) }
+        ensures behind { IfOk result (λ w. KeepsBehind room.old w) }
         ensures left { IfOk result (λ w. left_of w + length (spell (datagram_tree (head_of head.now) none)) ≡ min 65535 (length room.old)) }
         ensures need { IfErr result (λ e. e.need ≡ length (spell (datagram_tree (head_of head.now) none))) }
         ensures room { IfErr result (λ e. e.room ≡ min 65535 (length room.old)) }
@@ -88,6 +89,7 @@ impl<'b> DatagramWriter<'b> {
         ensures same { result.room.ghost_name ≡ room.entry.ghost_name }
         ensures size { length result.room.now ≡ length room.old }
         ensures has { Has result (head_of head.now) none }
+        ensures behind { KeepsBehind room.old result }
     {
         let len = append_front(room, head);
         DatagramWriter {
@@ -221,6 +223,9 @@ impl<'b> DatagramWriter<'b> {
             → take result self.exit.0.now ≡ spell (datagram_tree h samples) }
         ensures length { (h : Head) (samples : Trees) → Has self.entry h samples
             → result ≡ length (spell (datagram_tree h samples)) }
+
+        // Behind the datagram the room has the bytes that it had there.
+        ensures behind { (bytes : List ℕ) → KeepsBehind bytes self.entry → drop result self.exit.0.now ≡ drop result bytes }
     {
         self.len
     }

@@ -1,20 +1,20 @@
 // Pieces behind what stands in a room. For each of them there is room, so that none is refused.
-ghost use Rattle.std.specs.Prelude.{◌≡◌, ◌≤◌, ◌+◌, ◌%◌, length, take, IsOkAnd};
+ghost use Rattle.std.specs.Prelude.{◌≡◌, ◌≤◌, ◌+◌, ◌%◌, length, take, drop, IsOkAnd};
 ghost use Rattle.std.specs.Int.{w32, to_be_bytes};
 ghost use Rattle.wire_spec.specs.Heads.{datagram_tree};
 ghost use Rattle.wire_spec.specs.Shapes.{none, other};
 ghost use Rattle.wire_spec.specs.Spelling.{spell, padded};
 ghost use Rattle.data_format.specs.Samples.{IsFlowHead, IsCountersHead};
 ghost use Rattle.data_format.specs.Views.{IsFormat, format_word};
-ghost use Rattle.datagram_views.specs.Heads.{head_of};
-ghost use Rattle.datagram_views.specs.Records.{record_tree};
+ghost use Rattle.datagram_core.specs.Heads.{head_of};
+ghost use Rattle.datagram_core.specs.Records.{record_tree};
 ghost use Rattle.datagram_core.specs.Written.{begun_bytes, begun_flow, begun_counters, FormatFits, SlicesFit, record_body, Extends, patch};
 
 use crate::writer_parts::{
     front_length, write_counters, write_flow, write_front, write_other, write_record,
 };
+use crate::{DatagramHead, Record};
 use data_format::{CountersHead, FlowHead, Form, Format};
-use datagram_views::{DatagramHead, Record};
 use xdr_words::{Out, OutFull};
 
 /// The version, the head and a count of 0 samples, at the front of the room.
@@ -49,7 +49,7 @@ pub(crate) fn append_flow(
     Ok(out.len())
 }
 
-/// The same of a counters sample.
+/// The format of a counters sample, a length of 0, its head, and a count of 0 records.
 pub(crate) fn append_counters(
     room: &mut [u8],
     len: usize,
@@ -121,6 +121,7 @@ pub(crate) fn patch_word(room: &mut [u8], len: usize, place: usize, value: u32)
     requires place { place + 4 ≤ len }
     ensures size { length room.new ≡ length room.old }
     ensures patched { take len room.new ≡ patch place (to_be_bytes w32 value) (take len room.old) }
+    ensures behind { drop len room.new ≡ drop len room.old }
 {
     let mut out = Out::resume(room, len);
     out.patch_word(place, value);

@@ -10,13 +10,13 @@ ghost use Rattle.data_format.specs.Samples.{IsFlowHead, IsCountersHead};
 ghost use Rattle.data_format.specs.declared.heads.FlowHead.{FlowHead};
 ghost use Rattle.data_format.specs.declared.heads.CountersHead.{CountersHead};
 ghost use Rattle.data_format.specs.Views.{IsFormat, format_word};
-ghost use Rattle.datagram_views.specs.Heads.{head_of};
-ghost use Rattle.datagram_views.specs.Records.{record_tree};
+ghost use Rattle.datagram_core.specs.Heads.{head_of};
+ghost use Rattle.datagram_core.specs.Records.{record_tree};
 ghost use Rattle.datagram_core.specs.Written.{begun_bytes, begun_flow, begun_counters, FormatFits, SlicesFit, record_body};
 
 use crate::record_writing::{format_word_of, write_body};
+use crate::{DatagramHead, Record};
 use data_format::{Address, CountersHead, FlowHead, Form, Format};
-use datagram_views::{DatagramHead, Record};
 use sample_expanded::{CountersSampleX, FlowSampleX};
 use sample_std::{CountersSample, FlowSample};
 use xdr_words::{Item, Out, OutFull, write_run};
@@ -82,7 +82,7 @@ pub(crate) fn flow_length(form: Form) -> usize
     }
 }
 
-/// The same of a counters sample.
+/// How many bytes the format, the length and the head of a counters sample have, with a count.
 pub(crate) fn counters_length(form: Form) -> usize
     ensures { (head : CountersHead) → length (begun_bytes (begun_counters form head)) ≡ result }
 {
@@ -115,7 +115,7 @@ pub(crate) fn write_flow(out: &mut Out<'_>, form: Form, head: &FlowHead) -> Resu
     }
 }
 
-/// The same of a counters sample.
+/// The format of a counters sample, a length of 0, its head, and a count of 0 records.
 pub(crate) fn write_counters(
     out: &mut Out<'_>,
     form: Form,

@@ -141,8 +141,8 @@ fn put_canonical<K: Sink>(
     }
 }
 
-// A datagram with zero padding, at the front of the room: how many bytes it has. `None` where the bytes are no
-// datagram.
+// A datagram with zero padding, at the front of the room: how many bytes it has. `None` is where the bytes stay: they
+// are no datagram, or their padding is zero.
 #[tactic(auto, unfolding(crate::specs::Canons::canonical))]
 fn write_canonical(bytes: &[u8], room: &mut [u8]) -> Option<usize>
     requires room { 65535 ≤ length room.old }
@@ -150,6 +150,9 @@ fn write_canonical(bytes: &[u8], room: &mut [u8]) -> Option<usize>
     ensures datagram { IfSome result (λ n. take n room.new ≡ canonical bytes.now) }
     ensures other { result ≡ None → canonical bytes.now ≡ bytes.now }
 {
+    if Datagram::parse(bytes, Pad::Zero).is_ok() {
+        return None;
+    }
     let Ok(datagram) = Datagram::parse(bytes, Pad::Any) else {
         return None;
     };

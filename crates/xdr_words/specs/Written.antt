@@ -8,6 +8,10 @@ use Rattle.xdr_words.specs.declared.writer.OutFull.{OutFull}
 abbrev pub written : Out → List ℕ
 written o = take o.len o.room.now
 
+-- the bytes of the room behind them
+abbrev pub behind : Out → List ℕ
+behind o = drop o.len o.room.now
+
 -- how many bytes still fit behind them
 abbrev pub room_left : Out → ℕ
 room_left o = length o.room.now - o.len
@@ -31,12 +35,13 @@ pub record Resumes (room : MutBor (List ℕ)) (n : ℕ) (o : Out) : Type 0 where
 abbrev pub Begins : MutBor (List ℕ) → Out → Type 0
 Begins room o = Resumes room 0 o
 
--- a piece stands at the end of what was written
+-- a piece stands at the end of what was written, and the bytes behind it stay as they were
 pub record Appends (old new : Out) (piece : List ℕ) : Type 0 where
   pub room : SameRoom old new
   pub fits : length piece ≤ room_left old
   pub len : new.len ≡ old.len + length piece
   pub whole : written new ≡ written old ++ piece
+  pub behind : drop new.len new.room.now ≡ drop new.len old.room.now
 
 -- the piece doesn't fit, and nothing changed
 pub record Refuses (old new : Out) (e : OutFull) (piece : List ℕ) : Type 0 where

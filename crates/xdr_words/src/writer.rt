@@ -1,4 +1,4 @@
-ghost use Rattle.std.specs.Prelude.{◌≡◌, ◌+◌, ◌<◌, ◌≤◌, ◌^◌, ◌++◌, length, replicate, take, IsOkAnd};
+ghost use Rattle.std.specs.Prelude.{◌≡◌, ◌+◌, ◌<◌, ◌≤◌, ◌^◌, ◌++◌, length, replicate, take, drop, IsOkAnd};
 ghost use Rattle.std.specs.Int.{w32, w64, to_be_bytes};
 ghost use Rattle.xdr_words.specs.ItemTrees.{AllFit, run_bytes};
 
@@ -17,7 +17,7 @@ pub struct OutFull {
 
 /// A writer into borrowed room, from the front on (RFC 4506). What it has written stands at the start of the room, and
 /// it keeps this room until it is gone. Each call appends a whole piece, or answers `OutFull` exactly where the piece
-/// doesn't fit, and then the room is as it was.
+/// doesn't fit, and then the room is as it was. The bytes behind what is written are never touched.
 #[derive(Drop)]
 pub struct Out<'b> {
     room: &'b mut [u8],
@@ -28,7 +28,7 @@ pub struct Out<'b> {
 impl<'b> Out<'b> {
     ghost use Rattle.wire_spec.specs.Padding.{padding_of};
     ghost use Rattle.wire_spec.specs.Spelling.{padded, counted};
-    ghost use Rattle.xdr_words.specs.Written.{written, room_left, Begins, Resumes, Appends, Puts, Patches};
+    ghost use Rattle.xdr_words.specs.Written.{written, behind, room_left, Begins, Resumes, Appends, Puts, Patches};
 
     /// A writer that has written nothing into this room.
     #[inline(always)]
@@ -169,7 +169,8 @@ impl<'b> Out<'b> {
     #[inline(always)]
     pub fn patch_word(&mut self, place: usize, value: u32)
         requires { place + 4 ≤ length (written self.old) }
-        ensures { Patches self.old self.new place (to_be_bytes w32 value) }
+        ensures patches { Patches self.old self.new place (to_be_bytes w32 value) }
+        ensures behind { behind self.new ≡ behind self.old }
     {
         let mut bytes = [0; 4];
         BigEndian::write_u32(&mut bytes, value);
@@ -193,6 +194,7 @@ fn put_behind(
     ensures len { IsOkAnd result (λ n. n ≡ len + length (run_bytes items.now tail.now)) }
     ensures size { length room.new ≡ length room.old }
     ensures whole { IsOkAnd result (λ n. take n room.new ≡ take len room.old ++ run_bytes items.now tail.now) }
+    ensures behind { IsOkAnd result (λ n. drop n room.new ≡ drop n room.old) }
 {
     let mut out = Out::resume(room, len);
     write_each(&mut out, items);

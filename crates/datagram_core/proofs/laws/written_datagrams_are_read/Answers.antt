@@ -2,7 +2,7 @@ use Rattle.wire_spec.specs.Heads.{datagram_tree}
 use Rattle.wire_spec.specs.Spelling.{spell}
 use Rattle.wire_spec.proofs.OneReading.{whole_taken}
 use Rattle.wire_spec.proofs.Spellings.{lawful_spelled}
-use Rattle.datagram_views.specs.Tables.{datagram_read}
+use Rattle.datagram_core.specs.Tables.{datagram_read}
 use Rattle.datagram_core.proofs.laws.written_datagrams_are_read.Goals as goal
 
 pub returns : goal.returns

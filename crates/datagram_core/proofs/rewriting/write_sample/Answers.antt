@@ -5,12 +5,12 @@ use Rattle.data_format.specs.declared.heads.CountersHead.{CountersHead}
 use Rattle.data_format.specs.Trees.{frame_trees}
 use Rattle.data_format.specs.Views.{format_word}
 use Rattle.wire_spec.specs.Shapes.{other}
-use Rattle.datagram_views.specs.Records.{table_of}
-use Rattle.datagram_views.specs.Samples.{sample_tree}
-use Rattle.datagram_views.specs.Tables.{flow_records_read, counter_records_read}
+use Rattle.datagram_core.specs.Records.{table_of}
+use Rattle.datagram_core.specs.Samples.{sample_tree}
+use Rattle.datagram_core.specs.Tables.{flow_records_read, counter_records_read}
 use Rattle.datagram_core.specs.Written.{begun_flow, begun_counters, begun_bytes, filled, closed_sample}
 use Rattle.datagram_core.specs.Writers.{left_of}
-use Rattle.datagram_core.proofs.Filling.{front_full, kept_full, has_same, full_same, if_err, adds_room}
+use Rattle.datagram_core.proofs.Filling.{front_full, kept_full, has_same, full_same, if_err, same_room, adds_room}
 use Rattle.datagram_core.proofs.rewriting.write_sample.Goals as goal
 
 pub returns-in_err-open_flow-in-Flow-clause-full : goal.returns-in_err-open_flow-in-Flow-clause-full
@@ -130,3 +130,43 @@ returns-in-Other-clause-full c = λ h samples has.
     let frame = c.in-Other.frame in
     rw c.in-Other.is (kept_full c.args.writer.now c.push_other.new.self c.push_other.result h samples
     (other (format_word frame.format) frame.body.now) c.push_other.ensures.room has)
+
+pub returns-in_err-open_flow-in-Flow-clause-room : goal.returns-in_err-open_flow-in-Flow-clause-room
+returns-in_err-open_flow-in-Flow-clause-room c =
+    adds_room c.args.writer.now c.open_flow.new.self c.open_flow.result _ c.open_flow.ensures.room
+
+pub returns-in_ok-open_flow-in-Flow-clause-room : goal.returns-in_ok-open_flow-in-Flow-clause-room
+returns-in_ok-open_flow-in-Flow-clause-room c =
+    same_room c.args.writer.now c.open_flow.new.self c.fill.new.writer
+    (adds_room c.args.writer.now c.open_flow.new.self c.open_flow.result _ c.open_flow.ensures.room) c.fill.ensures.room
+
+pub returns-in_err-open_flow-in-FlowX-clause-room : goal.returns-in_err-open_flow-in-FlowX-clause-room
+returns-in_err-open_flow-in-FlowX-clause-room c =
+    adds_room c.args.writer.now c.open_flow-in-FlowX.new.self c.open_flow-in-FlowX.result _ c.open_flow-in-FlowX.ensures.room
+
+pub returns-in_ok-open_flow-in-FlowX-clause-room : goal.returns-in_ok-open_flow-in-FlowX-clause-room
+returns-in_ok-open_flow-in-FlowX-clause-room c =
+    same_room c.args.writer.now c.open_flow-in-FlowX.new.self c.fill-in-FlowX.new.writer
+    (adds_room c.args.writer.now c.open_flow-in-FlowX.new.self c.open_flow-in-FlowX.result _ c.open_flow-in-FlowX.ensures.room) c.fill-in-FlowX.ensures.room
+
+pub returns-in_err-open_counters-in-Counters-clause-room : goal.returns-in_err-open_counters-in-Counters-clause-room
+returns-in_err-open_counters-in-Counters-clause-room c =
+    adds_room c.args.writer.now c.open_counters.new.self c.open_counters.result _ c.open_counters.ensures.room
+
+pub returns-in_ok-open_counters-in-Counters-clause-room : goal.returns-in_ok-open_counters-in-Counters-clause-room
+returns-in_ok-open_counters-in-Counters-clause-room c =
+    same_room c.args.writer.now c.open_counters.new.self c.fill-in-Counters.new.writer
+    (adds_room c.args.writer.now c.open_counters.new.self c.open_counters.result _ c.open_counters.ensures.room) c.fill-in-Counters.ensures.room
+
+pub returns-in_err-open_counters-in-CountersX-clause-room : goal.returns-in_err-open_counters-in-CountersX-clause-room
+returns-in_err-open_counters-in-CountersX-clause-room c =
+    adds_room c.args.writer.now c.open_counters-in-CountersX.new.self c.open_counters-in-CountersX.result _ c.open_counters-in-CountersX.ensures.room
+
+pub returns-in_ok-open_counters-in-CountersX-clause-room : goal.returns-in_ok-open_counters-in-CountersX-clause-room
+returns-in_ok-open_counters-in-CountersX-clause-room c =
+    same_room c.args.writer.now c.open_counters-in-CountersX.new.self c.fill-in-CountersX.new.writer
+    (adds_room c.args.writer.now c.open_counters-in-CountersX.new.self c.open_counters-in-CountersX.result _ c.open_counters-in-CountersX.ensures.room) c.fill-in-CountersX.ensures.room
+
+pub returns-in-Other-clause-room : goal.returns-in-Other-clause-room
+returns-in-Other-clause-room c =
+    adds_room c.args.writer.now c.push_other.new.self c.push_other.result _ c.push_other.ensures.room

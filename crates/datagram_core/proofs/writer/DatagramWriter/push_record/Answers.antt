@@ -1,5 +1,5 @@
 use Rattle.std.proofs.Common.{Option, refl, sym, subst, arith}
-use Rattle.datagram_views.specs.Records.{record_tree}
+use Rattle.datagram_core.specs.Records.{record_tree}
 use Rattle.datagram_core.specs.Writers.{OfKind}
 use Rattle.datagram_core.specs.declared.writer.OpenSample.{OpenSample}
 use Rattle.datagram_core.proofs.Frames.{format_fits}

@@ -1,0 +1,116 @@
+-- Records as contracts see them (sFlow Version 5, section 5).
+use Rattle.std.specs.Prelude.{◌≡◌, ℕ, zero, suc, ◌+◌, ◌<◌, ◌^◌, List, [], length}
+use Rattle.wire_spec.specs.Shapes.{Table, empty, Tree, known, other}
+use Rattle.data_format.specs.declared.format.Frame.{Frame}
+use Rattle.data_format.specs.Ranges.{IsRange, EndsWith}
+use Rattle.data_format.specs.Records.{Content}
+use Rattle.data_format.specs.Trees.{frame_tree}
+use Rattle.data_format.specs.Views.{IsFormat, FrameView, frame_view, format_word}
+use Rattle.rec_headers.specs.Contents as headers
+use Rattle.rec_extended.specs.Contents as switches
+use Rattle.rec_extended.specs.RouteContents as routes
+use Rattle.rec_counters.specs.Contents as counters
+use Rattle.datagram_core.specs.Tables.{flow_records_read, counter_records_read}
+use Rattle.datagram_core.specs.declared.records.Record.{Record}
+use Rattle.datagram_core.specs.declared.records.Record.TheVariants.{
+  RawHeader,
+  Ethernet,
+  Ipv4,
+  Ipv6,
+  Switch,
+  Router,
+  Gateway,
+  IfCounters,
+  EthernetCounters,
+  VlanCounters,
+  Other,
+}
+use Rattle.datagram_core.specs.declared.records.RecordKind.{RecordKind}
+use Rattle.datagram_core.specs.declared.records.RecordKind.TheVariants as kinds
+use Rattle.datagram_core.specs.declared.sample.Sample.{Sample}
+use Rattle.datagram_core.specs.declared.sample.Sample.TheVariants as samples
+
+-- the table of a kind of records
+abbrev pub table_of : RecordKind → Table
+table_of kinds.Flow = flow_records_read
+table_of kinds.Counters = counter_records_read
+table_of kinds.Unknown = empty
+
+-- kinds by their numbers
+abbrev pub kind_by : ℕ → RecordKind
+kind_by zero = kinds.Flow
+kind_by (suc zero) = kinds.Counters
+kind_by (suc (suc n)) = kinds.Unknown
+
+-- what contracts see of the records of a sample: their kind, and the frames of those left
+pub record RecordsView : Type 0 where
+  pub kind : RecordKind
+  pub frames : List FrameView
+
+-- the records of a sample, none where its format isn't read
+abbrev pub records_of : Sample → RecordsView
+records_of (samples.Flow s) = record { kind = kinds.Flow; frames = s.frames }
+records_of (samples.Counters s) = record { kind = kinds.Counters; frames = s.frames }
+records_of (samples.FlowX s) = record { kind = kinds.Flow; frames = s.frames }
+records_of (samples.CountersX s) = record { kind = kinds.Counters; frames = s.frames }
+records_of (samples.Other frame) = record { kind = kinds.Unknown; frames = [] }
+
+-- the value of a record of format k: its fields, and its tail
+abbrev pub as_known : ℕ → Content → Tree
+as_known k x = known k x.0 x.1
+
+-- the value of a record: its format, its fields and its tail; or the bytes of the body
+abbrev pub record_tree : Record → Tree
+record_tree (RawHeader r) = as_known 1 (headers.raw_content r)
+record_tree (Ethernet r) = as_known 2 (headers.ethernet_content r)
+record_tree (Ipv4 r) = as_known 3 (headers.ipv4_content r)
+record_tree (Ipv6 r) = as_known 4 (headers.ipv6_content r)
+record_tree (Switch r) = as_known 1001 (switches.switch_content r)
+record_tree (Router r) = as_known 1002 (routes.router_content r)
+record_tree (Gateway r) = as_known 1003 (routes.gateway_content r)
+record_tree (IfCounters r) = as_known 1 (counters.interface_content r)
+record_tree (EthernetCounters r) = as_known 2 (counters.ethernet_content r)
+record_tree (VlanCounters r) = as_known 5 (counters.vlan_content r)
+record_tree (Other frame) = other (format_word frame.format) frame.body.now
+
+-- The header of a packet stands behind four words, the lists of a gateway within the body, and the tail is its rest; a
+-- record whose format isn't read has the whole body.
+abbrev pub HasSlices : List ℕ → Record → Type 0
+HasSlices body (RawHeader r) = IsRange body 16 r.header.now × EndsWith body r.tail.now
+HasSlices body (Ethernet r) = EndsWith body r.tail.now
+HasSlices body (Ipv4 r) = EndsWith body r.tail.now
+HasSlices body (Ipv6 r) = EndsWith body r.tail.now
+HasSlices body (Switch r) = EndsWith body r.tail.now
+HasSlices body (Router r) = EndsWith body r.tail.now
+HasSlices body (Gateway r) = EndsWith body r.tail.now × routes.HasLists body r
+HasSlices body (IfCounters r) = EndsWith body r.tail.now
+HasSlices body (EthernetCounters r) = EndsWith body r.tail.now
+HasSlices body (VlanCounters r) = EndsWith body r.tail.now
+HasSlices body (Other frame) = frame.body.now ≡ body
+
+-- a record whose format isn't read is the frame itself; the format is that of a word, and the place behind the body
+-- is below 2^32
+abbrev pub IsRecordFrame : FrameView → Record → Type 0
+IsRecordFrame f (Other frame) = (frame_view frame ≡ f) × IsFormat frame.format × (f.at + length f.body < 2 ^ 32)
+IsRecordFrame f _ = Unit {0}
+
+-- the record of this kind in a frame
+pub record IsRecordOf (kind : RecordKind) (f : FrameView) (r : Record) : Type 0 where
+  -- its value is that of the frame
+  pub value : record_tree r ≡ frame_tree (table_of kind) f
+  -- a frame whose format isn't read
+  pub itself : IsRecordFrame f r
+  -- its slices are ranges of the frame's body
+  pub slices : HasSlices f.body r
+
+-- ---- while a frame is read
+
+-- a record whose format isn't read is this frame
+abbrev pub IsThisRecord : Frame → Record → Type 0
+IsThisRecord frame (Other g) = (g.format ≡ frame.format) × (frame_view g ≡ frame_view frame)
+IsThisRecord frame _ = Unit {0}
+
+-- what of the above is so under each reading of padding
+pub record IsRecordFrom (frame : Frame) (r : Record) : Type 0 where
+  pub itself : IsThisRecord frame r
+  pub slices : HasSlices frame.body.now r

@@ -1,0 +1,119 @@
+ghost use Rattle.std.specs.Prelude.{◌≡◌, ◌+◌, ◌<◌, ◌^◌, length, IfOk};
+ghost use Rattle.wire_spec.specs.Reading.{inside_at};
+ghost use Rattle.xdr_words.specs.Readers.{Gives};
+ghost use Rattle.data_format.specs.Views.{body_of, format_word, frame_view};
+ghost use Rattle.datagram_core.specs.Records.{records_of};
+ghost use Rattle.datagram_core.specs.Samples.{IsFrom, HasRecords, sample_tree};
+ghost use Rattle.datagram_core.specs.Tables.{samples_read};
+ghost use Rattle.datagram_core.specs.Kinds.{IsUnreadOther};
+
+use crate::Records;
+use crate::records::RecordKind;
+use data_format::{Fault, Frame, Frames};
+use sample_expanded::{CountersSampleX, FlowSampleX};
+use sample_std::{CountersSample, FlowSample};
+use wire_spec::Pad;
+
+/// A sample of a datagram (sFlow Version 5, section 5).
+#[derive(Drop)]
+pub enum Sample<'a> {
+    /// A flow sample in the compact form, format 1 of the standard.
+    Flow(FlowSample<'a>),
+    /// A counters sample in the compact form, format 2 of the standard.
+    Counters(CountersSample<'a>),
+    /// A flow sample in the expanded form, format 3 of the standard.
+    FlowX(FlowSampleX<'a>),
+    /// A counters sample in the expanded form, format 4 of the standard.
+    CountersX(CountersSampleX<'a>),
+    /// A sample of any other format, as its frame.
+    Other(Frame<'a>),
+}
+
+impl<'a> Sample<'a> {
+    /// The sample in a frame, by its format; or the first fault in its body. The place behind the body is below 2^32.
+    // A check has no use for the value, which then isn't made.
+    #[inline(always)]
+    pub(crate) fn read(frame: Frame<'a>, pad: Pad) -> Result<Sample<'a>, Fault>
+        requires { frame.at + length frame.body.now < 2 ^ 32 }
+        ensures exact { Gives sample_tree (λ f. f) result
+            (inside_at pad samples_read (format_word frame.entry.format) (body_of (frame_view frame.entry))) }
+        ensures from { IfOk result (λ s. IsFrom frame.entry s) }
+        ensures unread { IfOk result (λ s. IsUnreadOther s) }
+    {
+        if frame.format.enterprise != 0 {
+            return Ok(Sample::Other(frame));
+        }
+        match frame.format.number {
+            1 => read_flow(frame, pad),
+            2 => read_counters(frame, pad),
+            3 => read_expanded_flow(frame, pad),
+            4 => read_expanded_counters(frame, pad),
+            _ => Ok(Sample::Other(frame)),
+        }
+    }
+
+    /// The records, from the first one on; none for `Other`. Each of them has passed the check of its kind, as the
+    /// records of every sample that `Samples::next` gives have.
+    pub fn records(&self) -> Records<'a>
+        requires { HasRecords self.now }
+        ensures { result ≡ records_of self.now }
+    {
+        match self {
+            Sample::Flow(sample) => Records::over(RecordKind::Flow, sample.frames()),
+            Sample::Counters(sample) => Records::over(RecordKind::Counters, sample.frames()),
+            Sample::FlowX(sample) => Records::over(RecordKind::Flow, sample.frames()),
+            Sample::CountersX(sample) => Records::over(RecordKind::Counters, sample.frames()),
+            Sample::Other(_) => Records::over(RecordKind::Unknown, Frames::none()),
+        }
+    }
+}
+
+// The sample in a frame of each format that is read, or the first fault in its body.
+
+#[inline(always)]
+fn read_flow<'a>(frame: Frame<'a>, pad: Pad) -> Result<Sample<'a>, Fault>
+    requires format { format_word frame.format ≡ 1 }
+    requires place { frame.at + length frame.body.now < 2 ^ 32 }
+    ensures exact { Gives sample_tree (λ f. f) result
+        (inside_at pad samples_read (format_word frame.entry.format) (body_of (frame_view frame.entry))) }
+    ensures from { IfOk result (λ s. IsFrom frame.entry s) }
+    ensures unread { IfOk result (λ s. IsUnreadOther s) }
+{
+    Ok(Sample::Flow(FlowSample::read(frame, pad, &RecordKind::Flow)?))
+}
+
+#[inline(always)]
+fn read_counters<'a>(frame: Frame<'a>, pad: Pad) -> Result<Sample<'a>, Fault>
+    requires format { format_word frame.format ≡ 2 }
+    requires place { frame.at + length frame.body.now < 2 ^ 32 }
+    ensures exact { Gives sample_tree (λ f. f) result
+        (inside_at pad samples_read (format_word frame.entry.format) (body_of (frame_view frame.entry))) }
+    ensures from { IfOk result (λ s. IsFrom frame.entry s) }
+    ensures unread { IfOk result (λ s. IsUnreadOther s) }
+{
+    Ok(Sample::Counters(CountersSample::read(frame, pad, &RecordKind::Counters)?))
+}
+
+#[inline(always)]
+fn read_expanded_flow<'a>(frame: Frame<'a>, pad: Pad) -> Result<Sample<'a>, Fault>
+    requires format { format_word frame.format ≡ 3 }
+    requires place { frame.at + length frame.body.now < 2 ^ 32 }
+    ensures exact { Gives sample_tree (λ f. f) result
+        (inside_at pad samples_read (format_word frame.entry.format) (body_of (frame_view frame.entry))) }
+    ensures from { IfOk result (λ s. IsFrom frame.entry s) }
+    ensures unread { IfOk result (λ s. IsUnreadOther s) }
+{
+    Ok(Sample::FlowX(FlowSampleX::read(frame, pad, &RecordKind::Flow)?))
+}
+
+#[inline(always)]
+fn read_expanded_counters<'a>(frame: Frame<'a>, pad: Pad) -> Result<Sample<'a>, Fault>
+    requires format { format_word frame.format ≡ 4 }
+    requires place { frame.at + length frame.body.now < 2 ^ 32 }
+    ensures exact { Gives sample_tree (λ f. f) result
+        (inside_at pad samples_read (format_word frame.entry.format) (body_of (frame_view frame.entry))) }
+    ensures from { IfOk result (λ s. IsFrom frame.entry s) }
+    ensures unread { IfOk result (λ s. IsUnreadOther s) }
+{
+    Ok(Sample::CountersX(CountersSampleX::read(frame, pad, &RecordKind::Counters)?))
+}

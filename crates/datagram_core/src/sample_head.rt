@@ -1,0 +1,97 @@
+// The head of a sample that was checked is read once more, without its records.
+ghost use Rattle.std.specs.Prelude.{◌≡◌, ◌+◌, ◌<◌, ◌^◌, length, Ok};
+ghost use Rattle.wire_spec.specs.declared.pad.Pad.TheVariants.{Any};
+ghost use Rattle.data_format.specs.Trees.{table_test};
+ghost use Rattle.data_format.specs.Views.{format_word, frame_view};
+ghost use Rattle.datagram_core.specs.SampleHeads.{IsHeadOf};
+ghost use Rattle.datagram_core.specs.Tables.{samples_read};
+
+use data_format::{CountersHead, FlowHead, Frame};
+use sample_expanded::{CountersSampleX, FlowSampleX};
+use sample_std::{CountersSample, FlowSample};
+
+/// What stands before the records of a sample (sFlow Version 5, section 5).
+#[derive(Clone, Copy, Debug, PartialEq, Eq)]
+pub enum SampleHead {
+    /// Of a flow sample, in the compact or the expanded form, formats 1 and 3 of the standard.
+    Flow(FlowHead),
+    /// Of a counters sample, in the compact or the expanded form, formats 2 and 4 of the standard.
+    Counters(CountersHead),
+    /// The format is none of these, and isn't read.
+    Other,
+}
+
+impl SampleHead {
+    /// The head of the sample in a frame in which the check found no fault. The place behind the body is below 2^32.
+    #[inline(always)]
+    pub(crate) fn again(frame: Frame<'_>) -> SampleHead
+        requires place { frame.at + length frame.body.now < 2 ^ 32 }
+        requires passes { table_test Any samples_read (frame_view frame) ≡ Ok tt }
+        ensures { IsHeadOf (frame_view frame.entry) result }
+    {
+        if frame.format.enterprise != 0 {
+            return SampleHead::Other;
+        }
+        match frame.format.number {
+            1 => flow_head(frame),
+            2 => counters_head(frame),
+            3 => expanded_flow_head(frame),
+            4 => expanded_counters_head(frame),
+            _ => SampleHead::Other,
+        }
+    }
+}
+
+// The head in such a frame of each format that is read.
+
+#[inline(always)]
+fn flow_head(frame: Frame<'_>) -> SampleHead
+    requires format { format_word frame.format ≡ 1 }
+    requires place { frame.at + length frame.body.now < 2 ^ 32 }
+    requires passes { table_test Any samples_read (frame_view frame) ≡ Ok tt }
+    ensures { IsHeadOf (frame_view frame.entry) result }
+{
+    match FlowSample::read_head(frame) {
+        Ok(head) => SampleHead::Flow(head),
+        Err(_) => unreachable!(),
+    }
+}
+
+#[inline(always)]
+fn counters_head(frame: Frame<'_>) -> SampleHead
+    requires format { format_word frame.format ≡ 2 }
+    requires place { frame.at + length frame.body.now < 2 ^ 32 }
+    requires passes { table_test Any samples_read (frame_view frame) ≡ Ok tt }
+    ensures { IsHeadOf (frame_view frame.entry) result }
+{
+    match CountersSample::read_head(frame) {
+        Ok(head) => SampleHead::Counters(head),
+        Err(_) => unreachable!(),
+    }
+}
+
+#[inline(always)]
+fn expanded_flow_head(frame: Frame<'_>) -> SampleHead
+    requires format { format_word frame.format ≡ 3 }
+    requires place { frame.at + length frame.body.now < 2 ^ 32 }
+    requires passes { table_test Any samples_read (frame_view frame) ≡ Ok tt }
+    ensures { IsHeadOf (frame_view frame.entry) result }
+{
+    match FlowSampleX::read_head(frame) {
+        Ok(head) => SampleHead::Flow(head),
+        Err(_) => unreachable!(),
+    }
+}
+
+#[inline(always)]
+fn expanded_counters_head(frame: Frame<'_>) -> SampleHead
+    requires format { format_word frame.format ≡ 4 }
+    requires place { frame.at + length frame.body.now < 2 ^ 32 }
+    requires passes { table_test Any samples_read (frame_view frame) ≡ Ok tt }
+    ensures { IsHeadOf (frame_view frame.entry) result }
+{
+    match CountersSampleX::read_head(frame) {
+        Ok(head) => SampleHead::Counters(head),
+        Err(_) => unreachable!(),
+    }
+}

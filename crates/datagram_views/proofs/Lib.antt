@@ -1,9 +1,0 @@
-pub mod Whole
-pub mod Stand
-pub mod Rows
-pub mod RecordRows
-pub mod RecordFrames
-pub mod Counts
-pub mod Again
-pub mod Unchecked
-pub mod SampleHeads
