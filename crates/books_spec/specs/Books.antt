@@ -4,9 +4,11 @@
 use Rattle.std.specs.Prelude.{ℕ, ◌+◌, Bool, true, false, cond, List, [], ◌∷◌, length, map, Option, Some, None, nat_le}
 use Rattle.std.specs.List.{filter, filter_map, count_by, position_or_len}
 use Rattle.wire_spec.specs.declared.fault.Fault.{Fault}
-use Rattle.count_spec.specs.Windows.{Answer, answer, counted}
+use Rattle.count_spec.specs.Windows.{answer, counted}
+use Rattle.count_spec.specs.declared.entered.Entered.{Entered}
 use Rattle.count_spec.specs.Windows as windows
-use Rattle.count_spec.specs.Boots.{sequences, BootPlace, boot_place, boots, stale_items}
+use Rattle.count_spec.specs.Boots.{sequences, boot_place, boots, stale_items}
+use Rattle.count_spec.specs.declared.boot_place.BootPlace.{BootPlace}
 use Rattle.count_spec.specs.Boots as places
 use Rattle.books_spec.specs.Views.{View, plain_view, flow_view}
 use Rattle.books_spec.specs.Items.{SourceId, Reading, Sample, Of, Other, Datagram, stamp_of, Item, Got, Malformed, Stream, stream_of, Source, Limits}

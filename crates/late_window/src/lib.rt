@@ -5,12 +5,11 @@
 //! a number that doesn't wrap, as RFC 3550, appendix A.1, extends the sequence numbers of packets.
 #![tactic(auto)]
 
-mod entered;
 mod ring;
 mod side;
 mod window;
 
-pub use entered::{Entered, Place};
+pub use count_spec::{Entered, Place};
 pub use window::Window;
 
 #[cfg(test)]

@@ -1,6 +1,7 @@
 -- A ledger of flow samples that enters one, and what it shows.
 use Rattle.std.proofs.Common.{◌≡◌, ℕ, List, ◌∷◌, length, map, refl, sym, ◌∙◌, ap, subst}
-use Rattle.count_spec.specs.Windows.{Answer, answer, counted}
+use Rattle.count_spec.specs.Windows.{answer, counted}
+use Rattle.count_spec.specs.declared.entered.Entered.{Entered}
 use Rattle.count_spec.specs.Rise.{rise, first_values}
 use Rattle.books_spec.specs.Views.{rise_over, last_value, marks_in}
 use Rattle.source_ledger.specs.Boots.{entered_boots}

@@ -2,7 +2,10 @@
 use Rattle.std.proofs.Common.{◌≡◌, ◌≢◌, ℕ, ◌+◌, false, List, [], ◌∷◌, map, ℤ, pos, ◌≤ℤ◌, ◌<ℤ◌, refl, sym, ◌∙◌, ap, subst, arith}
 use Rattle.std.proofs.lemmas.Int.{ints}
 use Rattle.std.proofs.lemmas.List.Sums.{sum_by-cons}
-use Rattle.count_spec.specs.Windows.{near, greatest, least, has, Only, place, Answer, First, Repeat, Late, answer, counted}
+use Rattle.count_spec.specs.Windows.{near, greatest, least, has, place, answer, counted}
+use Rattle.count_spec.specs.declared.entered.Place.TheVariants.{Only}
+use Rattle.count_spec.specs.declared.entered.Entered.{Entered}
+use Rattle.count_spec.specs.declared.entered.Entered.TheVariants.{First, Repeat, Late}
 use Rattle.count_spec.specs.Rise.{NumberedValue, numbers, value_at_greatest, value_at_least, rise, with_value, first_values}
 use Rattle.count_spec.proofs.Integers.{int_lt-true, int_lt-false, int_eq-same, int_eq-other}
 use Rattle.count_spec.proofs.Sets.{has-greatest, has-least, has-differs, least-at_most-greatest}

@@ -1,6 +1,8 @@
 -- The rise of a value over boots, kept as a sum and the values at the ends of the boot that was entered last.
 use Rattle.std.specs.Prelude.{◌≡◌, ℕ, ◌+◌, List}
-use Rattle.count_spec.specs.Windows.{Only, Newest, Inside, Least, Answer, First, Repeat, Late}
+use Rattle.count_spec.specs.declared.entered.Place.TheVariants.{Only, Newest, Inside, Least}
+use Rattle.count_spec.specs.declared.entered.Entered.{Entered}
+use Rattle.count_spec.specs.declared.entered.Entered.TheVariants.{First, Repeat, Late}
 use Rattle.count_spec.specs.Rise.{value_at_greatest, value_at_least, rise_between, first_values}
 use Rattle.books_spec.specs.Views.{rise_over}
 use Rattle.source_ledger.specs.Boots.{first_boot}

@@ -2,8 +2,11 @@
 use Rattle.std.proofs.Common.{◌≡◌, ℕ, suc, ◌+◌, Bool, true, false, cond, List, [], ◌∷◌, length, add-one, map, ℤ, ◌-ℤ◌, refl, sym, ap, subst, ◌∙◌, true≢false, arith}
 use Rattle.std.specs.Prelude.{◌==◌}
 use Rattle.std.proofs.lemmas.Bool.{eqb-true}
-use Rattle.count_spec.specs.Windows.{Answer, answer, counted, is_newest}
-use Rattle.count_spec.specs.Boots.{boot_mark, sequences, newest_boot_mark, BootPlace, Current, Next, Stale, place_at, boot_place, placed, with_stale, boots, stale_items}
+use Rattle.count_spec.specs.Windows.{answer, counted, is_newest}
+use Rattle.count_spec.specs.declared.entered.Entered.{Entered}
+use Rattle.count_spec.specs.Boots.{boot_mark, sequences, newest_boot_mark, place_at, boot_place, placed, with_stale, boots, stale_items}
+use Rattle.count_spec.specs.declared.boot_place.BootPlace.{BootPlace}
+use Rattle.count_spec.specs.declared.boot_place.BootPlace.TheVariants.{Current, Next, Stale}
 use Rattle.count_spec.proofs.Restarts.{newest_boot_mark-step}
 use Rattle.source_ledger.specs.Marks as marks
 use Rattle.books_spec.specs.Items.{Datagram, stamp_of}

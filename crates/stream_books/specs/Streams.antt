@@ -1,6 +1,8 @@
 -- What is kept of a stream, and the datagrams for which it stands, the LATEST FIRST.
 use Rattle.std.specs.Prelude.{◌≡◌, ℕ, ◌^◌, ◌≤◌, List, [], ◌∷◌, length, map, ℤ, pos, ◌+ℤ◌, ◌-ℤ◌, ◌≤ℤ◌, cond, ◌==◌}
-use Rattle.count_spec.specs.Boots.{sequences, newest_boot_mark, BootPlace, Next, place_at, boots, stale_items}
+use Rattle.count_spec.specs.Boots.{sequences, newest_boot_mark, place_at, boots, stale_items}
+use Rattle.count_spec.specs.declared.boot_place.BootPlace.{BootPlace}
+use Rattle.count_spec.specs.declared.boot_place.BootPlace.TheVariants.{Next}
 use Rattle.source_ledger.specs.Marks.{MarksState}
 use Rattle.source_ledger.specs.Marks as marks
 use Rattle.books_spec.specs.Items.{Datagram, stamp_of}
