@@ -91,7 +91,7 @@ over-marks width (current ∷ closed) =
 
 -- ---- rises
 
-with_value-length : (a : Answer) (v n : ℕ) (before : List NumberedValue) → length before ≤ n
+with_value-length : (a : Entered) (v n : ℕ) (before : List NumberedValue) → length before ≤ n
     → length (with_value a v before) ≤ suc n
 with_value-length (First place number) v n before h = omega arith
 with_value-length Repeat v n before h = omega arith

@@ -1,10 +1,11 @@
 //! Worked rows of whole books, computed by the check. Items have the latest first.
 
 ghost use Rattle.std.specs.Prelude.{◌≡◌, true, false, Some, List, [], ◌∷◌};
-ghost use Rattle.books_spec.specs.Rows.{figures};
+ghost use Rattle.books_spec.specs.Rows.{figures, reading};
 ghost use Rattle.books_spec.specs.Items.{SourceId, Other, flow_sample, counters_sample, Malformed};
-ghost use Rattle.books_spec.specs.Books.{books, taken, First, Repeat, Late, Stale, Unlisted, Malformed_entry};
-ghost use Rattle.books_spec.specs.BookRows.{limits_of, sub, datagram_of, empty_at, reading, stream_line, source_line, sound_totals};
+ghost use Rattle.books_spec.specs.Books.{books, taken};
+ghost use Rattle.books_spec.specs.BookRows.{limits_of, sub, datagram_of, empty_at, stream_line, source_line, sound_totals};
+ghost use Rattle.books_spec.specs.declared.taken.Taken.TheVariants.{First, Repeat, Late, Stale, Unlisted, Malformed as MalformedEntry};
 ghost use Rattle.wire_spec.specs.Fails.{short};
 
 /// Datagrams that come again or too late: their samples are entered once.
@@ -99,7 +100,7 @@ pub fn unlisted_and_malformed()
           streams = stream_line (figures 1 1 0 0 1 0) 1 0 ∷ [];
           sources = [];
         } }
-    ensures fault_answer { taken (limits_of 2) [] (Malformed (short 24 4 3)) ≡ Malformed_entry }
+    ensures fault_answer { taken (limits_of 2) [] (Malformed (short 24 4 3)) ≡ MalformedEntry }
     ensures second_source { books (record (limits_of 2) { sources = 1 }) (datagram_of 0 1000 1000 1 (counters_sample 0 5 9
         ∷ counters_sample 0 6 9 ∷ counters_sample 0 5 10 ∷ []) ∷ [])
         ≡ record {
