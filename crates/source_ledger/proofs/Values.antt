@@ -18,13 +18,13 @@ use Rattle.source_ledger.specs.declared.rise.Rise.{Rise}
 use Rattle.source_ledger.proofs.Trims.{trim-sum}
 
 -- the values, with one more after this answer
-pub record After (a : Answer) (v : ℕ) (values : List NumberedValue) : Type 0 where
+pub record After (a : Entered) (v : ℕ) (values : List NumberedValue) : Type 0 where
   pub rises : rise (with_value a v values)
       ≡ rise values + rise_after a v (value_at_greatest values) (value_at_least values)
   pub greatest_is : value_at_greatest (with_value a v values) ≡ greatest_after a v (value_at_greatest values)
   pub least_is : value_at_least (with_value a v values) ≡ least_after a v (value_at_least values)
 
-after-none : (a : Answer) (v : ℕ) (values : List NumberedValue) → with_value a v values ≡ values
+after-none : (a : Entered) (v : ℕ) (values : List NumberedValue) → with_value a v values ≡ values
     → rise_after a v (value_at_greatest values) (value_at_least values) ≡ 0
     → greatest_after a v (value_at_greatest values) ≡ value_at_greatest values
     → least_after a v (value_at_least values) ≡ value_at_least values → After a v values
