@@ -17,7 +17,11 @@ pub record BootsState : Type 0 where
   -- the marks of the boots up to that one
   pub marks : MarksState
 
+-- the ledger shows these boots, the first of which has a mark
+pub record ShowsBoots (s : BootsState) (boots : List (List ℕ)) : Type 0 where
+  pub boot_is : s.boot ≡ length boots
+  pub marks_stand : marks.StandsFor s.marks boots
+
 -- the ledger stands for these boots: those after the last that has a mark don't matter
-pub record StandsFor (s : BootsState) (boots : List (List ℕ)) : Type 0 where
-  pub boot_is : s.boot ≡ length (entered_boots boots)
-  pub marks_stand : marks.StandsFor s.marks (entered_boots boots)
+abbrev pub StandsFor : BootsState → List (List ℕ) → Type 0
+StandsFor s boots = ShowsBoots s (entered_boots boots)

@@ -21,4 +21,3 @@ pub type StreamLedger = BootLedger;
 
 /// The sample numbers of a source of counters samples over the boots of its stream.
 pub type CounterLedger = BootLedger;
-
