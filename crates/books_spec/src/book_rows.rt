@@ -8,7 +8,7 @@ ghost use Rattle.books_spec.specs.BookRows.{limits_of, sub, datagram_of, empty_a
 ghost use Rattle.books_spec.specs.declared.taken.Taken.TheVariants.{First, Repeat, Late, Stale, Unlisted, Malformed as MalformedEntry};
 ghost use Rattle.wire_spec.specs.Fails.{short};
 
-/// Datagrams that come again or too late: their samples are entered once.
+/// Datagrams and samples that come again, too late, or in another order: the samples of a datagram are entered once.
 #[tactic(auto, unfolding(count_spec::specs::Parts::between))]
 pub fn repeats_and_late()
     ensures three_times { let f = datagram_of 0 1000 1000 1 (flow_sample 0 5 (reading 1 7 3 256) ∷ []) in
@@ -22,6 +22,20 @@ pub fn repeats_and_late()
         (taken (limits_of 256) [] f ≡ First) × (taken (limits_of 256) (f ∷ []) f ≡ Repeat)
         × (taken (limits_of 256) (f ∷ []) (empty_at 1000 1000 36) ≡ Late)
         × (taken (limits_of 256) (f ∷ []) (empty_at 1000 1000 37) ≡ First) }
+    ensures late { books (limits_of 256) (datagram_of 0 1000 1000 36 (flow_sample 0 5 (reading 1 7 3 256) ∷ [])
+        ∷ empty_at 1000 1000 100 ∷ [])
+        ≡ record {
+          totals = sound_totals 2 0 0 0;
+          streams = stream_line (figures 1 1 0 0 0 1) 1 0 ∷ [];
+          sources = [];
+        } }
+    ensures wider_for_samples { books (limits_of 256) (datagram_of 0 1000 1000 2 (flow_sample 0 5 (reading 101 9 3 256) ∷ [])
+        ∷ datagram_of 0 1000 1000 1 (flow_sample 0 5 (reading 1 7 3 256) ∷ []) ∷ [])
+        ≡ record {
+          totals = sound_totals 2 0 0 0;
+          streams = stream_line (figures 2 2 0 0 0 0) 1 0 ∷ [];
+          sources = source_line (record { flow = true; class = 0; index = 5 }) (figures 101 2 99 0 0 0) 2 0 256 ∷ [];
+        } }
     ensures pool_and_drops { books (limits_of 256) (
         datagram_of 0 1000 1000 2 (flow_sample 0 5 (reading 2 16 0 256) ∷ [])
         ∷ datagram_of 0 1000 1000 1 (flow_sample 0 5 (reading 1 4294967280 4294967295 256) ∷ []) ∷ [])
@@ -87,6 +101,13 @@ pub fn unlisted_and_malformed()
           totals = sound_totals 4 1 0 0;
           streams = stream_line (figures 2 2 0 0 0 0) 1 0
               ∷ record (stream_line (figures 1 1 0 0 0 0) 1 0) { stream = sub 1 } ∷ [];
+          sources = [];
+        } }
+    ensures samples_of_unlisted_ones { books (limits_of 1) (datagram_of 1 1000 1000 1 (flow_sample 0 5 (reading 1 7 3 256) ∷ [])
+        ∷ datagram_of 0 1000 1000 1 [] ∷ [])
+        ≡ record {
+          totals = sound_totals 2 1 0 0;
+          streams = stream_line (figures 1 1 0 0 0 0) 1 0 ∷ [];
           sources = [];
         } }
     ensures answer { taken (limits_of 1) (datagram_of 0 1000 1000 1 [] ∷ []) (datagram_of 1 1000 1000 1 []) ≡ Unlisted }

@@ -13,3 +13,6 @@ pub use books_spec::{LedgerView, SampleReading, Taken};
 pub use late_window::Entered;
 pub use source::SourceRecord;
 pub use stream::StreamRecord;
+
+#[cfg(test)]
+mod tests;
