@@ -4,10 +4,15 @@ use Rattle.std.specs.List.{filter_map, cons_option, count_by, sum_by}
 use Rattle.std.proofs.lemmas.List.Sums.{sum_by-cons}
 use Rattle.count_spec.proofs.Counts.{count_by-cons}
 use Rattle.count_spec.specs.Windows.{answer, counted}
-use Rattle.count_spec.specs.Boots.{sequences, BootPlace, Current, Next, Stale, boot_place, placed, boots}
-use Rattle.books_spec.specs.Items.{SourceId, Sample, Of, Other, Datagram, stamp_of, Item, Got, Malformed, Stream, stream_of, Source, Limits}
+use Rattle.count_spec.specs.Boots.{sequences, boot_place, placed, boots}
+use Rattle.count_spec.specs.declared.boot_place.BootPlace.{BootPlace}
+use Rattle.count_spec.specs.declared.boot_place.BootPlace.TheVariants.{Current, Next, Stale}
+use Rattle.books_spec.specs.Items.{SourceId, Sample, Of, Other, Datagram, stamp_of, Item, Got, Malformed, Stream, stream_of, Source}
+use Rattle.books_spec.specs.declared.limits.Limits.{Limits}
 use Rattle.books_spec.specs.Listing.{same_stream, same_id, same_source, among, listed, first_arrivals}
-use Rattle.books_spec.specs.Books.{streams_of, listed_streams, own, stream_boots, Taken, Unlisted, taken_of, taken_at, taken_in, taken_now, samples_at, first_samples, onto, Entered, entered_in, entered, source_of, sources_of, reading_of, readings, source_boots}
+use Rattle.books_spec.specs.Books.{streams_of, listed_streams, own, stream_boots, taken_of, taken_at, taken_in, taken_now, samples_at, first_samples, onto, Entered, entered_in, entered, source_of, sources_of, reading_of, readings, source_boots}
+use Rattle.books_spec.specs.declared.taken.Taken.{Taken}
+use Rattle.books_spec.specs.declared.taken.Taken.TheVariants.{Unlisted}
 use Rattle.books_spec.proofs.Listings.{listed-keeps, listed-other, listed-just_now, first_arrivals-all}
 use Rattle.books_spec.proofs.Keys.{stream-same}
 

@@ -2,7 +2,9 @@
 use Rattle.std.proofs.Common.{◌≡◌, ℕ, suc, ◌+◌, ◌*◌, ◌≤◌, List, [], ◌∷◌, length, map, ℤ, refl, arith}
 use Rattle.std.specs.List.{sum_by}
 use Rattle.std.proofs.lemmas.List.Sums.{sum_by-cons}
-use Rattle.count_spec.specs.Windows.{Answer, First, Repeat, Late, answer, counted, repeat_count, late_count}
+use Rattle.count_spec.specs.Windows.{answer, counted, repeat_count, late_count}
+use Rattle.count_spec.specs.declared.entered.Entered.{Entered}
+use Rattle.count_spec.specs.declared.entered.Entered.TheVariants.{First, Repeat, Late}
 use Rattle.count_spec.specs.Parts.{parts}
 use Rattle.count_spec.specs.Rise.{NumberedValue, rise, with_value, first_values}
 use Rattle.count_spec.proofs.Counted.{counted-distinct, answers-add_up}
@@ -89,7 +91,7 @@ over-marks width (current ∷ closed) =
 
 -- ---- rises
 
-with_value-length : (a : Answer) (v n : ℕ) (before : List NumberedValue) → length before ≤ n
+with_value-length : (a : Entered) (v n : ℕ) (before : List NumberedValue) → length before ≤ n
     → length (with_value a v before) ≤ suc n
 with_value-length (First place number) v n before h = omega arith
 with_value-length Repeat v n before h = omega arith

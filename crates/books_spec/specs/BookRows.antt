@@ -1,9 +1,11 @@
 -- Short forms in which the worked rows of whole books are written.
 use Rattle.std.specs.Prelude.{ℕ, List, [], ◌∷◌, None}
 use Rattle.wire_spec.specs.Heads.{ipv4}
-use Rattle.books_spec.specs.Views.{Figures}
-use Rattle.books_spec.specs.Items.{SourceId, Reading, Sample, Item, Got, Stream, Limits}
-use Rattle.books_spec.specs.Books.{StreamBooks, SourceBooks, Totals}
+use Rattle.books_spec.specs.Views.{Figures, view_with}
+use Rattle.books_spec.specs.Items.{SourceId, Sample, Item, Got, Stream}
+use Rattle.books_spec.specs.Books.{StreamBooks, SourceBooks}
+use Rattle.books_spec.specs.declared.limits.Limits.{Limits}
+use Rattle.books_spec.specs.declared.totals.Totals.{Totals}
 
 -- so many streams, else the limits that are usual
 abbrev pub limits_of : ℕ → Limits
@@ -36,16 +38,12 @@ datagram_of n arrival uptime sequence samples = Got (record {
 abbrev pub empty_at : ℕ → ℕ → ℕ → Item
 empty_at arrival uptime sequence = datagram_of 0 arrival uptime sequence []
 
--- what a sample shows
-abbrev pub reading : ℕ → ℕ → ℕ → ℕ → Reading
-reading mark pool drops rate = record { mark = mark; pool = pool; drops = drops; rate = rate }
-
 -- what is shown of sub-agent 0
 abbrev pub stream_line : Figures → ℕ → ℕ → StreamBooks
 stream_line figures boots stale = record {
   stream = sub 0;
   boots = boots;
-  view = record { figures = figures; pool = 0; drops = 0; rate = 0 };
+  view = view_with figures 0 0 0;
   stale = stale;
 }
 
@@ -54,7 +52,7 @@ abbrev pub source_line : SourceId → Figures → ℕ → ℕ → ℕ → Source
 source_line id figures pool drops rate = record {
   stream = 1;
   id = id;
-  view = record { figures = figures; pool = pool; drops = drops; rate = rate };
+  view = view_with figures pool drops rate;
 }
 
 -- totals without faults

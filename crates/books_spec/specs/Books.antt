@@ -4,12 +4,22 @@
 use Rattle.std.specs.Prelude.{ℕ, ◌+◌, Bool, true, false, cond, List, [], ◌∷◌, length, map, Option, Some, None, nat_le}
 use Rattle.std.specs.List.{filter, filter_map, count_by, position_or_len}
 use Rattle.wire_spec.specs.declared.fault.Fault.{Fault}
-use Rattle.count_spec.specs.Windows.{Answer, answer, counted}
-use Rattle.count_spec.specs.Windows as windows
-use Rattle.count_spec.specs.Boots.{sequences, BootPlace, boot_place, boots, stale_items}
-use Rattle.count_spec.specs.Boots as places
-use Rattle.books_spec.specs.Views.{View, plain_view, flow_view}
-use Rattle.books_spec.specs.Items.{SourceId, Reading, Sample, Of, Other, Datagram, stamp_of, Item, Got, Malformed, Stream, stream_of, Source, Limits}
+use Rattle.count_spec.specs.Windows.{answer, counted}
+use Rattle.count_spec.specs.Boots.{sequences, boot_place, boots, stale_items}
+use Rattle.count_spec.specs.declared.boot_place.BootPlace.{BootPlace}
+use Rattle.count_spec.specs.declared.boot_place.BootPlace.TheVariants as places
+use Rattle.count_spec.specs.declared.entered.Entered as window
+use Rattle.count_spec.specs.declared.entered.Entered.TheVariants as answers
+use Rattle.books_spec.specs.declared.limits.Limits.{Limits}
+use Rattle.books_spec.specs.declared.reading.SampleReading.{SampleReading}
+use Rattle.books_spec.specs.declared.ledger_view.LedgerView.{LedgerView}
+use Rattle.books_spec.specs.declared.taken.Taken.{Taken}
+use Rattle.books_spec.specs.declared.taken.Taken.TheVariants.{First, Repeat, Late, Stale, Unlisted, Spent}
+use Rattle.books_spec.specs.declared.taken.Taken.TheVariants as takes
+use Rattle.books_spec.specs.declared.totals.FirstFault.{FirstFault}
+use Rattle.books_spec.specs.declared.totals.Totals.{Totals}
+use Rattle.books_spec.specs.Views.{plain_view, flow_view}
+use Rattle.books_spec.specs.Items.{SourceId, Sample, Of, Other, Datagram, stamp_of, Item, Got, Malformed, Stream, stream_of, Source}
 use Rattle.books_spec.specs.Listing.{same_stream, same_id, same_source, among, listed, unlisted}
 
 -- ---- 1. entries and faults
@@ -23,11 +33,6 @@ datagrams (Malformed f ∷ before) = datagrams before
 abbrev pub is_malformed : Item → Bool
 is_malformed (Got d) = false
 is_malformed (Malformed f) = true
-
--- a fault, and the number of its entry, counted from 1
-pub record FirstFault : Type 0 where
-  pub entry : ℕ
-  pub fault : Fault
 
 -- the fault of the item that came after so many, unless there was one before
 abbrev pub fault_after : Option FirstFault → ℕ → Item → Option FirstFault
@@ -66,19 +71,10 @@ stale_of l stream items = stale_items stamp_of l.boot_slack l.datagram_width (ow
 
 -- ---- what a further item is answered
 
-pub data Taken : Type 0 where
-  First : Taken
-  Repeat : Taken
-  Late : Taken
-  Stale : Taken
-  Unlisted : Taken
-  Malformed_entry : Taken
-  Spent : Taken
-
-abbrev pub taken_of : Answer → Taken
-taken_of (windows.First place n) = First
-taken_of windows.Repeat = Repeat
-taken_of windows.Late = Late
+abbrev pub taken_of : window.Entered → Taken
+taken_of (answers.First place n) = First
+taken_of answers.Repeat = Repeat
+taken_of answers.Late = Late
 
 -- the sequence words of the first of these boots
 abbrev pub current_marks : List (List Datagram) → List ℕ
@@ -98,7 +94,7 @@ taken_in l boots d = taken_at l.datagram_width
 
 -- an item, of whatever number
 abbrev pub taken_now : Limits → List Item → Item → Taken
-taken_now l before (Malformed f) = Malformed_entry
+taken_now l before (Malformed f) = takes.Malformed
 taken_now l before (Got d) = cond (among same_stream (listed_streams l (Got d ∷ before)) (stream_of d))
     (taken_in l (stream_boots l (stream_of d) before) d) Unlisted
 
@@ -119,7 +115,7 @@ samples_at Repeat samples = []
 samples_at Late samples = []
 samples_at Stale samples = []
 samples_at Unlisted samples = []
-samples_at Malformed_entry samples = []
+samples_at takes.Malformed samples = []
 samples_at Spent samples = []
 
 -- these, from their first on, and before them the rest
@@ -174,16 +170,16 @@ first_samples width (d ∷ before) =
     (first_samples width before)
 
 -- the reading, where the sample is of this source
-abbrev pub reading_of : SourceId → Sample → Option Reading
+abbrev pub reading_of : SourceId → Sample → Option SampleReading
 reading_of id (Of other reading) = cond (same_id id other) (Some reading) None
 reading_of id Other = None
 
 -- the readings of a source in one boot
-abbrev pub readings : ℕ → SourceId → List Datagram → List Reading
+abbrev pub readings : ℕ → SourceId → List Datagram → List SampleReading
 readings width id boot = filter_map (reading_of id) (first_samples width boot)
 
 -- the readings of a source in each boot of its stream
-abbrev pub source_boots : Limits → Source → List Item → List (List Reading)
+abbrev pub source_boots : Limits → Source → List Item → List (List SampleReading)
 source_boots l source items = map (readings l.datagram_width source.id) (stream_boots l source.stream items)
 
 -- ---- 6. what is shown
@@ -192,7 +188,7 @@ pub record StreamBooks : Type 0 where
   pub stream : Stream
   -- how many boots it had
   pub boots : ℕ
-  pub view : View
+  pub view : LedgerView
   -- how many of its datagrams were stale
   pub stale : ℕ
 
@@ -204,20 +200,20 @@ stream_books l items stream = record {
   stale = length (stale_of l stream items);
 }
 
-abbrev pub mark_in : Reading → ℕ
-mark_in r = r.mark
+abbrev pub mark_in : SampleReading → ℕ
+mark_in r = r.sequence
 
-abbrev pub pool_in : Reading → ℕ
+abbrev pub pool_in : SampleReading → ℕ
 pool_in r = r.pool
 
-abbrev pub drops_in : Reading → ℕ
+abbrev pub drops_in : SampleReading → ℕ
 drops_in r = r.drops
 
-abbrev pub rate_in : Reading → ℕ
+abbrev pub rate_in : SampleReading → ℕ
 rate_in r = r.rate
 
 -- the view of a source of flow samples, or of one of counters samples
-abbrev pub readings_view : Bool → ℕ → List (List Reading) → View
+abbrev pub readings_view : Bool → ℕ → List (List SampleReading) → LedgerView
 readings_view true width boots = flow_view mark_in pool_in drops_in rate_in width boots
 readings_view false width boots = plain_view width (map (map mark_in) boots)
 
@@ -225,7 +221,7 @@ pub record SourceBooks : Type 0 where
   -- the number of its stream, counted from 1
   pub stream : ℕ
   pub id : SourceId
-  pub view : View
+  pub view : LedgerView
 
 -- the place of a stream among those listed, counted from 1
 abbrev pub stream_number : Limits → List Item → Stream → ℕ
@@ -239,16 +235,6 @@ source_books l items source = record {
 }
 
 -- counts of all items
-pub record Totals : Type 0 where
-  pub entries : ℕ
-  pub malformed : ℕ
-  -- datagrams of streams that aren't listed, and entered samples of sources that aren't
-  pub unlisted : ℕ
-  pub unlisted_samples : ℕ
-  -- entered samples of other formats
-  pub other : ℕ
-  pub first_fault : Option FirstFault
-
 abbrev pub totals : Limits → List Item → Totals
 totals l items = record {
   entries = length items;

@@ -4,6 +4,7 @@ use Rattle.std.specs.Prelude.{ℕ, Bool, true, false, List}
 use Rattle.wire_spec.specs.Heads.{AgentAddress, Head}
 use Rattle.wire_spec.specs.declared.fault.Fault.{Fault}
 use Rattle.count_spec.specs.Boots.{Stamp}
+use Rattle.books_spec.specs.declared.reading.SampleReading.{SampleReading}
 
 -- what samples are taken of within a stream: flow samples or counters samples, of one class and index;
 -- those of the compact and of the expanded form are the same
@@ -12,26 +13,19 @@ pub record SourceId : Type 0 where
   pub class : ℕ
   pub index : ℕ
 
--- what a sample shows: its sequence word, and, 0 in a counters sample, the sample pool, the drops and the rate
-pub record Reading : Type 0 where
-  pub mark : ℕ
-  pub pool : ℕ
-  pub drops : ℕ
-  pub rate : ℕ
-
 -- a sample of a source, or one of another format
 pub data Sample : Type 0 where
-  Of : SourceId → Reading → Sample
+  Of : SourceId → SampleReading → Sample
   Other : Sample
 
 -- a flow sample of this class and index
-abbrev pub flow_sample : ℕ → ℕ → Reading → Sample
+abbrev pub flow_sample : ℕ → ℕ → SampleReading → Sample
 flow_sample class index reading = Of (record { flow = true; class = class; index = index }) reading
 
--- a counters sample of this class, index and sequence word
+-- a counters sample of this class, index and sequence number
 abbrev pub counters_sample : ℕ → ℕ → ℕ → Sample
-counters_sample class index mark =
-    Of (record { flow = false; class = class; index = index }) (record { mark = mark; pool = 0; drops = 0; rate = 0 })
+counters_sample class index sequence =
+    Of (record { flow = false; class = class; index = index }) (record { sequence = sequence; pool = 0; drops = 0; rate = 0 })
 
 -- a datagram: its arrival in ms, its head, and its samples in their order
 pub record Datagram : Type 0 where
@@ -60,12 +54,3 @@ stream_of d = record { agent = d.head.agent; sub_agent = d.head.sub_agent }
 pub record Source : Type 0 where
   pub stream : Stream
   pub id : SourceId
-
--- what a collector may hold: how many streams and sources, the widths of the windows of datagrams and of samples,
--- and by how many ms the boot marks of one boot may differ
-pub record Limits : Type 0 where
-  pub streams : ℕ
-  pub sources : ℕ
-  pub datagram_width : ℕ
-  pub sample_width : ℕ
-  pub boot_slack : ℕ

@@ -1,6 +1,7 @@
+pub mod Limits
 pub mod Views
-pub mod Rows
 pub mod Items
 pub mod Listing
 pub mod Books
+pub mod Rows
 pub mod BookRows

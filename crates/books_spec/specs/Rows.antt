@@ -1,6 +1,9 @@
 -- Short forms in which the worked rows are written.
-use Rattle.std.specs.Prelude.{ℕ, List}
-use Rattle.books_spec.specs.Views.{Figures, View, flow_view}
+use Rattle.std.specs.Prelude.{ℕ, true, List}
+use Rattle.books_spec.specs.Views.{Figures}
+use Rattle.books_spec.specs.Books.{readings_view}
+use Rattle.books_spec.specs.declared.ledger_view.LedgerView.{LedgerView}
+use Rattle.books_spec.specs.declared.reading.SampleReading.{SampleReading}
 
 -- these figures
 abbrev pub figures : ℕ → ℕ → ℕ → ℕ → ℕ → ℕ → Figures
@@ -13,22 +16,10 @@ figures issued received pending lost repeated late = record {
   late = late;
 }
 
--- a flow sample's sequence word, and what it shows
-pub record Sample : Type 0 where
-  pub mark : ℕ
-  pub pool : ℕ
-  pub drops : ℕ
-  pub rate : ℕ
+-- what a flow sample shows
+abbrev pub reading : ℕ → ℕ → ℕ → ℕ → SampleReading
+reading sequence pool drops rate = record { sequence = sequence; pool = pool; drops = drops; rate = rate }
 
--- this sample
-abbrev pub sample : ℕ → ℕ → ℕ → ℕ → Sample
-sample mark pool drops rate = record { mark = mark; pool = pool; drops = drops; rate = rate }
-
--- the view of these samples over boots, under a window of width 64
-abbrev pub view_of : List (List Sample) → View
-view_of boots = flow_view (λ (s : Sample). s.mark) (λ (s : Sample). s.pool) (λ (s : Sample). s.drops)
-    (λ (s : Sample). s.rate) 64 boots
-
--- this view
-abbrev pub shows : Figures → ℕ → ℕ → ℕ → View
-shows f pool drops rate = record { figures = f; pool = pool; drops = drops; rate = rate }
+-- the view of these readings over boots, under a window of width 64
+abbrev pub view_of : List (List SampleReading) → LedgerView
+view_of boots = readings_view true 64 boots

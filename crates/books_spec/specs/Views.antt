@@ -6,6 +6,7 @@ use Rattle.std.specs.List.{sum_by}
 use Rattle.count_spec.specs.Windows.{counted, repeat_count, late_count}
 use Rattle.count_spec.specs.Parts.{Parts, parts}
 use Rattle.count_spec.specs.Rise.{value_at_greatest, rise, first_values}
+use Rattle.books_spec.specs.declared.ledger_view.LedgerView.{LedgerView}
 
 -- what the marks of a stream or a source come to
 pub record Figures : Type 0 where
@@ -17,15 +18,6 @@ pub record Figures : Type 0 where
   -- how many marks brought a number once more, and how many came too late
   pub repeated : ℕ
   pub late : ℕ
-
--- a view
-pub record View : Type 0 where
-  pub figures : Figures
-  -- the rise of the sample pool and of the drops
-  pub pool : ℕ
-  pub drops : ℕ
-  -- the sampling rate
-  pub rate : ℕ
 
 -- the figures of nothing
 abbrev pub no_figures : Figures
@@ -84,16 +76,26 @@ last_value mark value width ([] ∷ closed) = last_value mark value width closed
 last_value mark value width ((x ∷ more) ∷ closed) =
     value_at_greatest (first_values mark value width (x ∷ more))
 
+-- these figures, the rise of the sample pool and of the drops, and the sampling rate
+abbrev pub view_with : Figures → ℕ → ℕ → ℕ → LedgerView
+view_with f pool drops rate = record {
+  issued = f.issued;
+  received = f.received;
+  pending = f.pending;
+  lost = f.lost;
+  repeated = f.repeated;
+  late = f.late;
+  pool = pool;
+  drops = drops;
+  rate = rate;
+}
+
 -- the view of the marks of a stream, or of a source of counters samples
-abbrev pub plain_view : ℕ → List (List ℕ) → View
-plain_view width boots =
-    record { figures = figures_over width boots; pool = 0; drops = 0; rate = 0 }
+abbrev pub plain_view : ℕ → List (List ℕ) → LedgerView
+plain_view width boots = view_with (figures_over width boots) 0 0 0
 
 -- the view of a source of flow samples
-abbrev pub flow_view : {X : Type 0} → (X → ℕ) → (X → ℕ) → (X → ℕ) → (X → ℕ) → ℕ → List (List X) → View
-flow_view mark pool drops rate width boots = record {
-  figures = figures_over width (marks_in mark boots);
-  pool = rise_over mark pool width boots;
-  drops = rise_over mark drops width boots;
-  rate = last_value mark rate width boots;
-}
+abbrev pub flow_view : {X : Type 0} → (X → ℕ) → (X → ℕ) → (X → ℕ) → (X → ℕ) → ℕ → List (List X) → LedgerView
+flow_view mark pool drops rate width boots =
+    view_with (figures_over width (marks_in mark boots)) (rise_over mark pool width boots)
+    (rise_over mark drops width boots) (last_value mark rate width boots)

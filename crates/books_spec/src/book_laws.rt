@@ -2,7 +2,8 @@
 
 ghost use Rattle.std.specs.Prelude.{◌≡◌, ℕ, ◌+◌, ◌≤◌, true, List, length};
 ghost use Rattle.std.specs.List.{count_by, sum_by};
-ghost use Rattle.books_spec.specs.Items.{Item, Stream, Source, Limits};
+ghost use Rattle.books_spec.specs.Items.{Item, Stream, Source};
+ghost use Rattle.books_spec.specs.declared.limits.Limits.{Limits};
 ghost use Rattle.books_spec.specs.Listing.{AreDistinct, same_stream, same_source, among};
 ghost use Rattle.books_spec.specs.Books.{own, stream_boots, stale_of, sources_of, source_boots, listed_streams, listed_sources, stream_books, source_books, entered, totals};
 
@@ -17,9 +18,9 @@ pub fn what_is_listed_is_distinct()
 /// In each view the numbers issued were received, are pending, or are lost.
 pub fn issued_is_conserved_in_books()
     ensures streams { (l : Limits) (items : List Item) (stream : Stream) →
-        let f = (stream_books l items stream).view.figures in f.issued ≡ f.received + f.pending + f.lost }
+        let v = (stream_books l items stream).view in v.issued ≡ v.received + v.pending + v.lost }
     ensures sources { (l : Limits) (items : List Item) (source : Source) →
-        let f = (source_books l items source).view.figures in f.issued ≡ f.received + f.pending + f.lost }
+        let v = (source_books l items source).view in v.issued ≡ v.received + v.pending + v.lost }
 {}
 
 /// The readings of a source over the boots of a listed stream are as many as its samples that were entered.

@@ -1,13 +1,14 @@
 //! Worked rows of whole books, computed by the check. Items have the latest first.
 
 ghost use Rattle.std.specs.Prelude.{◌≡◌, true, false, Some, List, [], ◌∷◌};
-ghost use Rattle.books_spec.specs.Rows.{figures};
+ghost use Rattle.books_spec.specs.Rows.{figures, reading};
 ghost use Rattle.books_spec.specs.Items.{SourceId, Other, flow_sample, counters_sample, Malformed};
-ghost use Rattle.books_spec.specs.Books.{books, taken, First, Repeat, Late, Stale, Unlisted, Malformed_entry};
-ghost use Rattle.books_spec.specs.BookRows.{limits_of, sub, datagram_of, empty_at, reading, stream_line, source_line, sound_totals};
+ghost use Rattle.books_spec.specs.Books.{books, taken};
+ghost use Rattle.books_spec.specs.BookRows.{limits_of, sub, datagram_of, empty_at, stream_line, source_line, sound_totals};
+ghost use Rattle.books_spec.specs.declared.taken.Taken.TheVariants.{First, Repeat, Late, Stale, Unlisted, Malformed as MalformedEntry};
 ghost use Rattle.wire_spec.specs.Fails.{short};
 
-/// Datagrams that come again or too late: their samples are entered once.
+/// Datagrams and samples that come again, too late, or in another order: the samples of a datagram are entered once.
 #[tactic(auto, unfolding(count_spec::specs::Parts::between))]
 pub fn repeats_and_late()
     ensures three_times { let f = datagram_of 0 1000 1000 1 (flow_sample 0 5 (reading 1 7 3 256) ∷ []) in
@@ -21,6 +22,20 @@ pub fn repeats_and_late()
         (taken (limits_of 256) [] f ≡ First) × (taken (limits_of 256) (f ∷ []) f ≡ Repeat)
         × (taken (limits_of 256) (f ∷ []) (empty_at 1000 1000 36) ≡ Late)
         × (taken (limits_of 256) (f ∷ []) (empty_at 1000 1000 37) ≡ First) }
+    ensures late { books (limits_of 256) (datagram_of 0 1000 1000 36 (flow_sample 0 5 (reading 1 7 3 256) ∷ [])
+        ∷ empty_at 1000 1000 100 ∷ [])
+        ≡ record {
+          totals = sound_totals 2 0 0 0;
+          streams = stream_line (figures 1 1 0 0 0 1) 1 0 ∷ [];
+          sources = [];
+        } }
+    ensures wider_for_samples { books (limits_of 256) (datagram_of 0 1000 1000 2 (flow_sample 0 5 (reading 101 9 3 256) ∷ [])
+        ∷ datagram_of 0 1000 1000 1 (flow_sample 0 5 (reading 1 7 3 256) ∷ []) ∷ [])
+        ≡ record {
+          totals = sound_totals 2 0 0 0;
+          streams = stream_line (figures 2 2 0 0 0 0) 1 0 ∷ [];
+          sources = source_line (record { flow = true; class = 0; index = 5 }) (figures 101 2 99 0 0 0) 2 0 256 ∷ [];
+        } }
     ensures pool_and_drops { books (limits_of 256) (
         datagram_of 0 1000 1000 2 (flow_sample 0 5 (reading 2 16 0 256) ∷ [])
         ∷ datagram_of 0 1000 1000 1 (flow_sample 0 5 (reading 1 4294967280 4294967295 256) ∷ []) ∷ [])
@@ -88,6 +103,13 @@ pub fn unlisted_and_malformed()
               ∷ record (stream_line (figures 1 1 0 0 0 0) 1 0) { stream = sub 1 } ∷ [];
           sources = [];
         } }
+    ensures samples_of_unlisted_ones { books (limits_of 1) (datagram_of 1 1000 1000 1 (flow_sample 0 5 (reading 1 7 3 256) ∷ [])
+        ∷ datagram_of 0 1000 1000 1 [] ∷ [])
+        ≡ record {
+          totals = sound_totals 2 1 0 0;
+          streams = stream_line (figures 1 1 0 0 0 0) 1 0 ∷ [];
+          sources = [];
+        } }
     ensures answer { taken (limits_of 1) (datagram_of 0 1000 1000 1 [] ∷ []) (datagram_of 1 1000 1000 1 []) ≡ Unlisted }
     ensures first_of_two_faults { books (limits_of 2) (Malformed (short 8 4 0) ∷ empty_at 1000 1000 1 ∷ Malformed (short 24 4 3)
         ∷ empty_at 1000 1000 1 ∷ [])
@@ -99,7 +121,7 @@ pub fn unlisted_and_malformed()
           streams = stream_line (figures 1 1 0 0 1 0) 1 0 ∷ [];
           sources = [];
         } }
-    ensures fault_answer { taken (limits_of 2) [] (Malformed (short 24 4 3)) ≡ Malformed_entry }
+    ensures fault_answer { taken (limits_of 2) [] (Malformed (short 24 4 3)) ≡ MalformedEntry }
     ensures second_source { books (record (limits_of 2) { sources = 1 }) (datagram_of 0 1000 1000 1 (counters_sample 0 5 9
         ∷ counters_sample 0 6 9 ∷ counters_sample 0 5 10 ∷ []) ∷ [])
         ≡ record {

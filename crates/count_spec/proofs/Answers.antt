@@ -2,7 +2,11 @@
 use Rattle.std.proofs.Common.{◌≡◌, ℕ, Bool, true, false, cond, List, ℤ, pos, ◌-ℤ◌, ◌≤ℤ◌, ◌<ℤ◌, arith, refl}
 use Rattle.std.specs.Prelude.{int_lt, int_le}
 use Rattle.std.proofs.lemmas.Int.{ints}
-use Rattle.count_spec.specs.Windows.{greatest, least, has, place, Place, Newest, Inside, Least, Answer, First, Repeat, Late, number_answer}
+use Rattle.count_spec.specs.Windows.{greatest, least, has, place, number_answer}
+use Rattle.count_spec.specs.declared.entered.Place.{Place}
+use Rattle.count_spec.specs.declared.entered.Place.TheVariants.{Newest, Inside, Least}
+use Rattle.count_spec.specs.declared.entered.Entered.{Entered}
+use Rattle.count_spec.specs.declared.entered.Entered.TheVariants.{First, Repeat, Late}
 
 pub place-cases : (P : Place → Type 0) (set : List ℤ) (n : ℤ)
     → (greatest set <ℤ n → P Newest)
@@ -20,7 +24,7 @@ place-cases P set n newest least_ inside = above (int_lt (greatest set) n) refl
     above true e = newest (omega (arith, ints))
     above false e = below (int_lt n (least set)) refl (omega (arith, ints))
 
-pub number_answer-cases : (P : Answer → Type 0) (width : ℕ) (set : List ℤ) (n : ℤ)
+pub number_answer-cases : (P : Entered → Type 0) (width : ℕ) (set : List ℤ) (n : ℤ)
     → (n ≤ℤ (greatest set -ℤ pos width) → P Late)
     → ((greatest set -ℤ pos width) <ℤ n → has set n ≡ true → P Repeat)
     → ((greatest set -ℤ pos width) <ℤ n → has set n ≡ false → P (First (place set n) n))

@@ -2,7 +2,11 @@
 use Rattle.std.proofs.Common.{◌≡◌, ℕ, suc, ◌+◌, ◌<◌, ◌≤◌, false, cond, List, [], ◌∷◌, length, ℤ, ◌≤ℤ◌, ◌<ℤ◌, ◌≢◌, arith, refl, subst}
 use Rattle.std.specs.Int.{int_max}
 use Rattle.std.proofs.lemmas.Int.{ints, clamps}
-use Rattle.count_spec.specs.Windows.{near, greatest, least, has, AreDistinct, Answer, First, Repeat, Late, answer, answers, counting, counted, is_repeat, is_late, repeat_count, late_count, Place, Only, Newest, Inside, Least, place}
+use Rattle.count_spec.specs.Windows.{near, greatest, least, has, AreDistinct, answer, answers, counting, counted, is_repeat, is_late, repeat_count, late_count, place}
+use Rattle.count_spec.specs.declared.entered.Entered.{Entered}
+use Rattle.count_spec.specs.declared.entered.Entered.TheVariants.{First, Repeat, Late}
+use Rattle.count_spec.specs.declared.entered.Place.{Place}
+use Rattle.count_spec.specs.declared.entered.Place.TheVariants.{Only, Newest, Inside, Least}
 use Rattle.count_spec.proofs.Answers.{number_answer-cases, place-cases}
 use Rattle.count_spec.proofs.Counts.{count_by-cons}
 use Rattle.count_spec.proofs.Sets.{has-greatest-bound, has-differs, has-greatest, has-least}
@@ -22,7 +26,7 @@ counted-distinct width (mark ∷ before) =
     counting-distinct width (counted width before) mark (counted-distinct width before)
 
 -- each mark is counted, or a Repeat, or Late
-abbrev IsOne : List ℤ → Answer → Type 0
+abbrev IsOne : List ℤ → Entered → Type 0
 IsOne set a = length (counting a set) + cond (is_repeat a) 1 0 + cond (is_late a) 1 0 ≡ suc (length set)
 
 one : (width : ℕ) (set : List ℤ) (mark : ℕ) → IsOne set (answer width set mark)
@@ -90,7 +94,7 @@ Says set Newest n = greatest set <ℤ n
 Says set Inside n = (least set <ℤ n) × (n <ℤ greatest set)
 Says set Least n = n <ℤ least set
 
-abbrev SaysFirst : List ℤ → Answer → Type 0
+abbrev SaysFirst : List ℤ → Entered → Type 0
 SaysFirst set (First p n) = (has set n ≡ false) × Says set p n
 SaysFirst set Repeat = Unit {0}
 SaysFirst set Late = Unit {0}

@@ -6,8 +6,13 @@ use Rattle.std.specs.List.{count_by, sum_by, list_all}
 use Rattle.std.proofs.lemmas.Int.{ints}
 use Rattle.std.proofs.lemmas.Bool.{cases_Bool, false≢true, leb-true, leb-false, le-leb, or_cases}
 use Rattle.std.proofs.lemmas.List.Sums.{sum_by-cons}
-use Rattle.count_spec.specs.Windows.{near, greatest, least, has, place, Newest, Inside, Least, Answer, First, answer, counting, counted, is_newest}
-use Rattle.count_spec.specs.Boots.{Stamp, boot_mark, sequences, counts, boot_mark_of, newest_boot_mark, is_near_multiple, BootPlace, Current, Next, Stale, boot_place, placed, boots, with_stale, stale_items}
+use Rattle.count_spec.specs.Windows.{near, greatest, least, has, place, answer, counting, counted, is_newest}
+use Rattle.count_spec.specs.declared.entered.Place.TheVariants.{Newest, Inside, Least}
+use Rattle.count_spec.specs.declared.entered.Entered.{Entered}
+use Rattle.count_spec.specs.declared.entered.Entered.TheVariants.{First}
+use Rattle.count_spec.specs.Boots.{Stamp, boot_mark, sequences, counts, boot_mark_of, newest_boot_mark, is_near_multiple, boot_place, placed, boots, with_stale, stale_items}
+use Rattle.count_spec.specs.declared.boot_place.BootPlace.{BootPlace}
+use Rattle.count_spec.specs.declared.boot_place.BootPlace.TheVariants.{Current, Next, Stale}
 use Rattle.count_spec.proofs.Integers.{HasRemainder, has_remainder, int_eq-same, int_eq-other}
 use Rattle.count_spec.proofs.Counts.{count_by-cons}
 use Rattle.count_spec.proofs.Sets.{or-right, has-greatest, has-differs}
@@ -112,7 +117,7 @@ newest-step mark_at own width (n ∷ more) mark =
     number_answer-cases Moved width (n ∷ more) (near mark (greatest (n ∷ more)))
     (λ e. refl) (λ e f. refl) (λ e f. first (near mark (greatest (n ∷ more))) f)
   where
-    Moved : Answer → Type 0
+    Moved : Entered → Type 0
     Moved a = cond (counts a (greatest (counting a (n ∷ more)))) own
         (mark_at (greatest (counting a (n ∷ more))))
         ≡ cond (is_newest a) own (mark_at (greatest (n ∷ more)))
@@ -124,7 +129,7 @@ newest-step mark_at own width (n ∷ more) mark =
         below true = refl
         below false = refl
 
-        kept : (a : Answer) → counts a (greatest (n ∷ more)) ≡ int_eq k (greatest (n ∷ more))
+        kept : (a : Entered) → counts a (greatest (n ∷ more)) ≡ int_eq k (greatest (n ∷ more))
             → is_newest a ≡ false
             → cond (counts a (greatest (n ∷ more))) own (mark_at (greatest (n ∷ more)))
             ≡ cond (is_newest a) own (mark_at (greatest (n ∷ more)))

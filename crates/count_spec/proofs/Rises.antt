@@ -4,14 +4,16 @@ use Rattle.std.specs.Prelude.{int_lt}
 use Rattle.std.specs.Ordering.{int_eq}
 use Rattle.std.specs.Int.{int_max, int_min}
 use Rattle.std.proofs.lemmas.Int.{ints}
-use Rattle.count_spec.specs.Windows.{greatest, least, AreDistinct, Answer, First, Repeat, Late, answer, counting, counted}
+use Rattle.count_spec.specs.Windows.{greatest, least, AreDistinct, answer, counting, counted}
+use Rattle.count_spec.specs.declared.entered.Entered.{Entered}
+use Rattle.count_spec.specs.declared.entered.Entered.TheVariants.{First, Repeat, Late}
 use Rattle.count_spec.specs.Rise.{NumberedValue, numbers, value_at, value_at_greatest, value_at_least, rise_between, rise, with_value, first_values, shown, RisesSlowly, AreSlow}
 use Rattle.count_spec.proofs.Integers.{int_eq-same, int_eq-other}
 use Rattle.count_spec.proofs.Sets.{has-greatest, has-least, has-differs, least-at_most-greatest}
 
 -- ---- the First samples carry the counted numbers
 
-with_value-numbers : (a : Answer) (v : ℕ) (before : List NumberedValue) (set : List ℤ) → numbers before ≡ set
+with_value-numbers : (a : Entered) (v : ℕ) (before : List NumberedValue) (set : List ℤ) → numbers before ≡ set
     → numbers (with_value a v before) ≡ counting a set
 with_value-numbers (First place n) v before set e = ap (λ (ns : List ℤ). n ∷ ns) e
 with_value-numbers Repeat v before set e = e

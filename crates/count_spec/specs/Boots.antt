@@ -4,7 +4,11 @@
 use Rattle.std.specs.Prelude.{ℕ, ◌-◌, Bool, false, cond, ◌||◌, nat_le, List, [], ◌∷◌, map, ℤ, pos, ◌-ℤ◌, int_lt, unsigned_abs}
 use Rattle.std.specs.Int.{int_rem_euclid}
 use Rattle.std.specs.Ordering.{int_eq}
-use Rattle.count_spec.specs.Windows.{greatest, Answer, First, Repeat, Late, answer, counted}
+use Rattle.count_spec.specs.Windows.{greatest, answer, counted}
+use Rattle.count_spec.specs.declared.entered.Entered.{Entered}
+use Rattle.count_spec.specs.declared.entered.Entered.TheVariants.{First, Repeat, Late}
+use Rattle.count_spec.specs.declared.boot_place.BootPlace.{BootPlace}
+use Rattle.count_spec.specs.declared.boot_place.BootPlace.TheVariants.{Current, Next, Stale}
 
 -- what places a datagram: its arrival and uptime in ms, and its sequence word
 pub record Stamp : Type 0 where
@@ -21,7 +25,7 @@ abbrev pub sequences : {X : Type 0} → (X → Stamp) → List X → List ℕ
 sequences stamp items = map (λ x. (stamp x).sequence) items
 
 -- whether this answer counted the number
-abbrev pub counts : Answer → ℤ → Bool
+abbrev pub counts : Entered → ℤ → Bool
 counts (First place m) n = int_eq m n
 counts Repeat n = false
 counts Late n = false
@@ -44,12 +48,6 @@ abbrev pub is_near_multiple : ℕ → ℤ → Bool
 is_near_multiple slack d =
     let above : ℕ = unsigned_abs (int_rem_euclid d (pos 4294967296)) in
     nat_le above slack || nat_le (4294967296 - above) slack
-
--- where an item belongs: in the current boot, in the next boot that it begins, or, of an earlier one, in none
-pub data BootPlace : Type 0 where
-  Current : BootPlace
-  Next : BootPlace
-  Stale : BootPlace
 
 -- the place of an item whose boot mark less that of the newest item is d
 abbrev pub place_at : ℕ → ℤ → BootPlace

@@ -2,7 +2,9 @@
 -- over the First samples of one stretch of numbers. Every list has the LATEST FIRST.
 use Rattle.std.specs.Prelude.{ℕ, ◌+◌, ◌-◌, ◌%◌, ◌≤◌, ◌<◌, ◌<ℤ◌, cond, List, [], ◌∷◌, map, ℤ, int_lt}
 use Rattle.std.specs.Ordering.{int_eq}
-use Rattle.count_spec.specs.Windows.{greatest, least, Answer, First, Repeat, Late, answer, counted}
+use Rattle.count_spec.specs.Windows.{greatest, least, answer, counted}
+use Rattle.count_spec.specs.declared.entered.Entered.{Entered}
+use Rattle.count_spec.specs.declared.entered.Entered.TheVariants.{First, Repeat, Late}
 
 -- a sample's counted number, and a value that the sample carries
 pub record NumberedValue : Type 0 where
@@ -44,7 +46,7 @@ rise (v ∷ []) = 0
 rise (v ∷ u ∷ before) = rise (u ∷ before) + rise_step (u ∷ before) v
 
 -- the values with one more, where this answer is First
-abbrev pub with_value : Answer → ℕ → List NumberedValue → List NumberedValue
+abbrev pub with_value : Entered → ℕ → List NumberedValue → List NumberedValue
 with_value (First place n) value before = record { number = n; value = value } ∷ before
 with_value Repeat value before = before
 with_value Late value before = before

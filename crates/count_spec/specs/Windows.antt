@@ -6,6 +6,10 @@ use Rattle.std.specs.Prelude.{◌≡◌, ℕ, Bool, true, false, cond, ◌||◌,
 use Rattle.std.specs.Int.{int_max, int_min, int_rem_euclid}
 use Rattle.std.specs.List.{count_by}
 use Rattle.std.specs.Ordering.{int_eq}
+use Rattle.count_spec.specs.declared.entered.Place.{Place}
+use Rattle.count_spec.specs.declared.entered.Place.TheVariants.{Only, Newest, Inside, Least}
+use Rattle.count_spec.specs.declared.entered.Entered.{Entered}
+use Rattle.count_spec.specs.declared.entered.Entered.TheVariants.{First, Repeat, Late}
 
 -- the integer congruent to the mark mod 2^32 that is at least top - 2^31 and less than top + 2^31
 abbrev pub near : ℕ → ℤ → ℤ
@@ -39,35 +43,22 @@ abbrev pub AreDistinct : List ℤ → Type 0
 AreDistinct [] = Unit {0}
 AreDistinct (n ∷ more) = (has more n ≡ false) × AreDistinct more
 
--- how a number stands to those counted before it: the only one, above them all, among them, or below them all
-pub data Place : Type 0 where
-  Only : Place
-  Newest : Place
-  Inside : Place
-  Least : Place
-
--- a mark is the first of its number, which is then counted; or its number was counted before; or it is late
-pub data Answer : Type 0 where
-  First : Place → ℤ → Answer
-  Repeat : Answer
-  Late : Answer
-
 -- the place of a number beside those counted before it, of which there is one at least
 abbrev pub place : List ℤ → ℤ → Place
 place set n = cond (int_lt (greatest set) n) Newest (cond (int_lt n (least set)) Least Inside)
 
 -- the answer to a number: Late at the greatest less the width and below, else Repeat where it was counted
-abbrev pub number_answer : ℕ → List ℤ → ℤ → Answer
+abbrev pub number_answer : ℕ → List ℤ → ℤ → Entered
 number_answer width set n =
     cond (int_le n (greatest set -ℤ pos width)) Late (cond (has set n) Repeat (First (place set n) n))
 
 -- the answer to a mark after these numbers were counted: the first mark is counted as itself
-abbrev pub answer : ℕ → List ℤ → ℕ → Answer
+abbrev pub answer : ℕ → List ℤ → ℕ → Entered
 answer width [] mark = First Only (pos mark)
 answer width (n ∷ more) mark = number_answer width (n ∷ more) (near mark (greatest (n ∷ more)))
 
 -- the numbers that are counted after this answer
-abbrev pub counting : Answer → List ℤ → List ℤ
+abbrev pub counting : Entered → List ℤ → List ℤ
 counting (First place n) set = n ∷ set
 counting Repeat set = set
 counting Late set = set
@@ -78,12 +69,12 @@ counted width [] = []
 counted width (mark ∷ before) = counting (answer width (counted width before) mark) (counted width before)
 
 -- the answer that each of these marks was given
-abbrev pub answers : ℕ → List ℕ → List Answer
+abbrev pub answers : ℕ → List ℕ → List Entered
 answers width [] = []
 answers width (mark ∷ before) = answer width (counted width before) mark ∷ answers width before
 
 -- whether the mark brought a number above all before it, or the only one
-abbrev pub is_newest : Answer → Bool
+abbrev pub is_newest : Entered → Bool
 is_newest (First Only n) = true
 is_newest (First Newest n) = true
 is_newest (First Inside n) = false
@@ -92,13 +83,13 @@ is_newest Repeat = false
 is_newest Late = false
 
 -- whether the mark brought a number once more
-abbrev pub is_repeat : Answer → Bool
+abbrev pub is_repeat : Entered → Bool
 is_repeat (First place n) = false
 is_repeat Repeat = true
 is_repeat Late = false
 
 -- whether the mark came too late
-abbrev pub is_late : Answer → Bool
+abbrev pub is_late : Entered → Bool
 is_late (First place n) = false
 is_late Repeat = false
 is_late Late = true

@@ -3,7 +3,10 @@
 ghost use Rattle.std.specs.Prelude.{◌≡◌, ◌↔◌, ℕ, ◌+◌, ◌-◌, ◌%◌, ◌*◌, ◌^◌, ◌<◌, ◌≤◌, ◌&&◌, Bool, true, false, cond, List, [], ◌∷◌, length, map, ℤ, pos, ◌+ℤ◌, ◌-ℤ◌, ◌*ℤ◌, ◌<ℤ◌, ◌≤ℤ◌, int_lt, unsigned_abs, nat_le};
 ghost use Rattle.std.specs.Int.{int_max};
 ghost use Rattle.std.specs.List.{count_by, sum_by, list_all};
-ghost use Rattle.count_spec.specs.Windows.{near, mark_of, greatest, least, has, AreDistinct, Place, Only, Newest, Inside, Least, First, answer, counted, is_newest, repeat_count, late_count};
+ghost use Rattle.count_spec.specs.Windows.{near, mark_of, greatest, least, has, AreDistinct, answer, counted, is_newest, repeat_count, late_count};
+ghost use Rattle.count_spec.specs.declared.entered.Place.{Place};
+ghost use Rattle.count_spec.specs.declared.entered.Place.TheVariants.{Only, Newest, Inside, Least};
+ghost use Rattle.count_spec.specs.declared.entered.Entered.TheVariants.{First};
 ghost use Rattle.count_spec.specs.Parts.{parts, between};
 ghost use Rattle.count_spec.specs.Boots.{Stamp, boot_mark, sequences, newest_boot_mark, is_near_multiple, boots, stale_items};
 ghost use Rattle.count_spec.specs.Rise.{NumberedValue, numbers, value_at_greatest, value_at_least, rise_between, rise, first_values, shown, AreSlow};

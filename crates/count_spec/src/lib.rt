@@ -4,5 +4,10 @@
 //! Every list in a contract has the latest first.
 #![tactic(auto)]
 
+mod boot_place;
+mod entered;
 pub mod laws;
 pub mod rows;
+
+pub use boot_place::BootPlace;
+pub use entered::{Entered, Place};

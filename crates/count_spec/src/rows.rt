@@ -1,7 +1,9 @@
 //! Worked rows, computed by the check. Each list has the latest first.
 
 ghost use Rattle.std.specs.Prelude.{◌≡◌, ℕ, List, [], ◌∷◌, map, ℤ, pos, negsuc};
-ghost use Rattle.count_spec.specs.Windows.{answers, First, Repeat, Late, Only, Newest, Inside, Least};
+ghost use Rattle.count_spec.specs.Windows.{answers};
+ghost use Rattle.count_spec.specs.declared.entered.Entered.TheVariants.{First, Repeat, Late};
+ghost use Rattle.count_spec.specs.declared.entered.Place.TheVariants.{Only, Newest, Inside, Least};
 ghost use Rattle.count_spec.specs.Rows.{parts_of_marks, figures, datagram, boots_of, stale_of, at_number};
 ghost use Rattle.count_spec.specs.Boots.{boot_mark};
 ghost use Rattle.count_spec.specs.Rise.{rise};

@@ -4,7 +4,10 @@ use Rattle.std.proofs.Common.{◌≡◌, ◌≢◌, ℕ, suc, ◌+◌, ◌-◌, 
 use Rattle.std.specs.Prelude.{◌==◌, nat_le}
 use Rattle.std.proofs.lemmas.Int.{ints, clamps}
 use Rattle.std.proofs.lemmas.Bool.{cases_eq, cases_lt, cases_Bool, eq-eqb, ne_eqb, le-leb, lt-leb, false≢true}
-use Rattle.count_spec.specs.Windows.{near, greatest, least, has, Only, Newest, Inside, Least, Answer, First, Repeat, Late, answer, counting}
+use Rattle.count_spec.specs.Windows.{near, greatest, least, has, answer, counting}
+use Rattle.count_spec.specs.declared.entered.Place.TheVariants.{Only, Newest, Inside, Least}
+use Rattle.count_spec.specs.declared.entered.Entered.{Entered}
+use Rattle.count_spec.specs.declared.entered.Entered.TheVariants.{First, Repeat, Late}
 use Rattle.count_spec.proofs.Integers.{int_eq-same, int_eq-other}
 use Rattle.count_spec.proofs.Sets.{has-greatest-bound, has-least-bound, has-greatest}
 use Rattle.count_spec.proofs.Answers.{number_answer-cases, place-cases}
@@ -115,7 +118,7 @@ within-bits set g back k bit old =
 -- ---- a further mark
 
 -- the answer is this one, and the window shows what is counted then
-pub record Goes (old new : WindowState) (set : List ℤ) (mark : ℕ) (a : Answer) : Type 0 where
+pub record Goes (old new : WindowState) (set : List ℤ) (mark : ℕ) (a : Entered) : Type 0 where
   pub answers : answer old.width set mark ≡ a
   pub shows : Shows new (counting a set)
 

@@ -1,6 +1,9 @@
 -- A window that stands for some marks stands, after a further one, for that mark and those.
 use Rattle.std.proofs.Common.{◌≡◌, ℕ, ◌+◌, ◌<◌, ◌≤◌, true, false, List, ◌∷◌, length, pos, ◌+ℤ◌, ◌-ℤ◌, sym, ◌∙◌, ap, subst, arith}
-use Rattle.count_spec.specs.Windows.{near, Answer, First, Repeat, Late, Only, Newest, Inside as InsidePlace, Least, answer, counting, counted}
+use Rattle.count_spec.specs.Windows.{near, answer, counting, counted}
+use Rattle.count_spec.specs.declared.entered.Entered.{Entered}
+use Rattle.count_spec.specs.declared.entered.Entered.TheVariants.{First, Repeat, Late}
+use Rattle.count_spec.specs.declared.entered.Place.TheVariants.{Only, Newest, Inside as InsidePlace, Least}
 use Rattle.late_window.specs.States.{WindowState, is_recent, Shows, StandsFor}
 use Rattle.late_window.specs.Steps.{IsBeside, Begins, Advances, Fills, Passes}
 use Rattle.late_window.specs.Fields.{held, window_state}
@@ -10,11 +13,11 @@ use Rattle.late_window.proofs.Recent.{recent-held}
 use Rattle.late_window.proofs.Shown.{Goes, goes-begins, goes-advances, goes-extends, goes-fills, goes-late, goes-repeat}
 
 -- the window goes on from these states under this mark with this answer
-pub record Enters (old new : WindowState) (mark : ℕ) (a : Answer) : Type 0 where
+pub record Enters (old new : WindowState) (mark : ℕ) (a : Entered) : Type 0 where
   pub stands : (marks : List ℕ) → StandsFor old marks → StandsFor new (mark ∷ marks)
   pub answers : (marks : List ℕ) → StandsFor old marks → a ≡ answer old.width (counted old.width marks) mark
 
-stands-goes : (old new : WindowState) (mark : ℕ) (a : Answer) (marks : List ℕ) → StandsFor old marks
+stands-goes : (old new : WindowState) (mark : ℕ) (a : Entered) (marks : List ℕ) → StandsFor old marks
     → new.width ≡ old.width → new.entered ≡ old.entered + 1 → Goes old new (counted old.width marks) mark a
     → StandsFor new (mark ∷ marks)
 stands-goes old new mark a marks st width entered goes =
@@ -22,10 +25,10 @@ stands-goes old new mark a marks st width entered goes =
     record {
       all_entered = omega arith;
       shows = subst (λ (w : ℕ). Shows new (counted w (mark ∷ marks))) (sym width)
-          (subst (λ (b : Answer). Shows new (counting b (counted old.width marks))) (sym goes.answers) goes.shows);
+          (subst (λ (b : Entered). Shows new (counting b (counted old.width marks))) (sym goes.answers) goes.shows);
     }
 
-enters-goes : (old new : WindowState) (mark : ℕ) (a : Answer) → new.width ≡ old.width
+enters-goes : (old new : WindowState) (mark : ℕ) (a : Entered) → new.width ≡ old.width
     → new.entered ≡ old.entered + 1
     → ((marks : List ℕ) → StandsFor old marks → Goes old new (counted old.width marks) mark a)
     → Enters old new mark a

@@ -2,6 +2,5 @@ pub mod Distances
 pub mod Ring
 pub mod Settled
 pub mod States
-pub mod Answers
 pub mod Steps
 pub mod Fields

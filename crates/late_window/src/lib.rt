@@ -8,12 +8,11 @@
 /// The greatest width of a window, a multiple of 64.
 pub const MAX_WIDTH: u32 = 1024;
 
-mod entered;
 mod ring;
 mod side;
 mod window;
 
-pub use entered::{Entered, Place};
+pub use count_spec::{Entered, Place};
 pub use window::Window;
 
 #[cfg(test)]

@@ -4,13 +4,12 @@ ghost use Rattle.late_window.specs.Distances.{count_below};
 ghost use Rattle.late_window.specs.Ring.{bit_below};
 ghost use Rattle.late_window.specs.Settled.{IsSettled};
 ghost use Rattle.late_window.specs.States.{StandsFor, is_recent, issued_count, pending_count, parts_of, newest_mark_of};
-ghost use Rattle.late_window.specs.Answers.{answer_of};
 ghost use Rattle.late_window.specs.Steps.{Begins, Advances, Fills, Passes};
 ghost use Rattle.late_window.specs.declared.TheConstants.{MAX_WIDTH};
 
 use crate::ring::Ring;
 use crate::side::{Side, side_of};
-use crate::{Entered, Place};
+use count_spec::{Entered, Place};
 use std::marker::Model;
 
 /// The numbers that 32-bit marks stand for, under a window of fixed width.
@@ -79,7 +78,7 @@ impl Window {
         requires few { self.old.entered < 2 ^ 62 }
         ensures stands { (marks : List ℕ) → StandsFor self.old marks → StandsFor self.new (mark ∷ marks) }
         ensures answer { (marks : List ℕ) → StandsFor self.old marks
-            → answer_of result ≡ answer self.old.width (counted self.old.width marks) mark }
+            → result ≡ answer self.old.width (counted self.old.width marks) mark }
         ensures width { self.new.width ≡ self.old.width }
         ensures entered { self.new.entered ≡ self.old.entered + 1 }
     {

@@ -1,4 +1,5 @@
 pub mod Trims
-pub mod Turns
+pub mod Closing
+pub mod BootSteps
 pub mod Values
 pub mod FlowSteps

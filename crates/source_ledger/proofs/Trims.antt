@@ -4,7 +4,8 @@ use Rattle.std.specs.List.{sum_by}
 use Rattle.std.proofs.lemmas.List.Sums.{sum_by-cons}
 use Rattle.books_spec.specs.Views.{figures_of, closing, sum_of, closed_figures, marks_in, last_value}
 use Rattle.books_spec.proofs.Sums.{sum_of-none}
-use Rattle.source_ledger.specs.Boots.{entered_boots, first_boot, other_boots}
+use Rattle.source_ledger.specs.Stretches.{current_of, closed_of}
+use Rattle.source_ledger.specs.Boots.{entered_boots}
 
 pub trim-length : {X : Type 0} (boots : List (List X)) → length (entered_boots boots) ≤ length boots
 trim-length [] = omega arith
@@ -27,12 +28,12 @@ trim-closed width [] = refl
 trim-closed width ([] ∷ closed) = sum_of-none (closed_figures width closed) ∙ trim-closed width closed
 trim-closed width ((x ∷ more) ∷ closed) = refl
 
--- the first of some closed boots, and the others
-pub closed-first : (width : ℕ) (boots : List (List ℕ))
-    → closed_figures width boots
-    ≡ sum_of (closing (figures_of width (first_boot boots))) (closed_figures width (other_boots boots))
+-- closed stretches are the first of them and the others
+pub closed-first : (width : ℕ) (stretches : List (List ℕ))
+    → closed_figures width stretches
+    ≡ sum_of (closing (figures_of width (current_of stretches))) (closed_figures width (closed_of stretches))
 closed-first width [] = refl
-closed-first width (boot ∷ closed) = refl
+closed-first width (stretch ∷ more) = refl
 
 pub trim-marks : {X : Type 0} (mark : X → ℕ) (boots : List (List X))
     → entered_boots (marks_in mark boots) ≡ marks_in mark (entered_boots boots)

@@ -2,7 +2,10 @@
 use Rattle.std.proofs.Common.{◌≡◌, ◌≢◌, ℕ, ◌+◌, false, List, [], ◌∷◌, map, ℤ, pos, ◌≤ℤ◌, ◌<ℤ◌, refl, sym, ◌∙◌, ap, subst, arith}
 use Rattle.std.proofs.lemmas.Int.{ints}
 use Rattle.std.proofs.lemmas.List.Sums.{sum_by-cons}
-use Rattle.count_spec.specs.Windows.{near, greatest, least, has, Only, place, Answer, First, Repeat, Late, answer, counted}
+use Rattle.count_spec.specs.Windows.{near, greatest, least, has, place, answer, counted}
+use Rattle.count_spec.specs.declared.entered.Place.TheVariants.{Only}
+use Rattle.count_spec.specs.declared.entered.Entered.{Entered}
+use Rattle.count_spec.specs.declared.entered.Entered.TheVariants.{First, Repeat, Late}
 use Rattle.count_spec.specs.Rise.{NumberedValue, numbers, value_at_greatest, value_at_least, rise, with_value, first_values}
 use Rattle.count_spec.proofs.Integers.{int_lt-true, int_lt-false, int_eq-same, int_eq-other}
 use Rattle.count_spec.proofs.Sets.{has-greatest, has-least, has-differs, least-at_most-greatest}
@@ -15,13 +18,13 @@ use Rattle.source_ledger.specs.declared.rise.Rise.{Rise}
 use Rattle.source_ledger.proofs.Trims.{trim-sum}
 
 -- the values, with one more after this answer
-pub record After (a : Answer) (v : ℕ) (values : List NumberedValue) : Type 0 where
+pub record After (a : Entered) (v : ℕ) (values : List NumberedValue) : Type 0 where
   pub rises : rise (with_value a v values)
       ≡ rise values + rise_after a v (value_at_greatest values) (value_at_least values)
   pub greatest_is : value_at_greatest (with_value a v values) ≡ greatest_after a v (value_at_greatest values)
   pub least_is : value_at_least (with_value a v values) ≡ least_after a v (value_at_least values)
 
-after-none : (a : Answer) (v : ℕ) (values : List NumberedValue) → with_value a v values ≡ values
+after-none : (a : Entered) (v : ℕ) (values : List NumberedValue) → with_value a v values ≡ values
     → rise_after a v (value_at_greatest values) (value_at_least values) ≡ 0
     → greatest_after a v (value_at_greatest values) ≡ value_at_greatest values
     → least_after a v (value_at_least values) ≡ value_at_least values → After a v values

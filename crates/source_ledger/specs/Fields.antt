@@ -1,14 +1,15 @@
 -- The fields of the ledgers.
 use Rattle.std.specs.Prelude.{◌≡◌, ◌+◌, ◌*◌, ◌^◌, ◌≤◌}
 use Rattle.source_ledger.specs.Marks.{MarksState}
+use Rattle.source_ledger.specs.Boots.{BootsState}
 use Rattle.source_ledger.specs.Flows.{FlowState}
 use Rattle.source_ledger.specs.declared.marks.MarkLedger.TheInside as marks
+use Rattle.source_ledger.specs.declared.boots.BootLedger.TheInside as boots
 use Rattle.source_ledger.specs.declared.flow.FlowLedger.TheInside as flow
 
 abbrev pub marks_state : marks.Inside → MarksState
 marks_state l = record {
   width = l.width;
-  boot = l.boot;
   entered = l.entered;
   issued = l.issued;
   received = l.received;
@@ -29,11 +30,14 @@ pub record IsMarkLedger (l : marks.Inside) : Type 0 where
   pub conserved : l.issued ≡ l.received + l.lost
   pub answers_few : l.repeated + l.late ≤ l.entered
 
+abbrev pub boots_state : boots.Inside → BootsState
+boots_state l = record { boot = l.boot; marks = l.marks }
+
 abbrev pub flow_state : flow.Inside → FlowState
-flow_state l = record { marks = l.marks; pool = l.pool; drops = l.drops; rate = l.rate }
+flow_state l = record { numbers = l.numbers; pool = l.pool; drops = l.drops; rate = l.rate }
 
 -- what each ledger of flow samples keeps
 pub record IsFlowLedger (l : flow.Inside) : Type 0 where
-  pub few : l.marks.entered ≤ 2 ^ 62
-  pub pool_few : l.pool.total ≤ 2 ^ 32 * l.marks.entered
-  pub drops_few : l.drops.total ≤ 2 ^ 32 * l.marks.entered
+  pub few : l.numbers.marks.entered ≤ 2 ^ 62
+  pub pool_few : l.pool.total ≤ 2 ^ 32 * l.numbers.marks.entered
+  pub drops_few : l.drops.total ≤ 2 ^ 32 * l.numbers.marks.entered

@@ -1,41 +1,25 @@
--- A ledger of flow samples, and the boots of samples for which it stands.
+-- A ledger of flow samples, and the readings over boots for which it stands: the current boot first, and in each the
+-- LATEST FIRST.
 use Rattle.std.specs.Prelude.{◌≡◌, ℕ, List}
 use Rattle.books_spec.specs.Views.{marks_in, last_value}
-use Rattle.source_ledger.specs.Boots.{entered_boots}
-use Rattle.source_ledger.specs.Marks.{MarksState}
-use Rattle.source_ledger.specs.Marks as marks
+use Rattle.books_spec.specs.Books.{mark_in, pool_in, drops_in, rate_in}
+use Rattle.books_spec.specs.declared.reading.SampleReading.{SampleReading}
+use Rattle.source_ledger.specs.Boots.{entered_boots, BootsState}
+use Rattle.source_ledger.specs.Boots as boots
 use Rattle.source_ledger.specs.Rises.{ShowsRise}
 use Rattle.source_ledger.specs.declared.rise.Rise.{Rise}
 
--- a flow sample's sequence word, sample pool, drops and sampling rate (sFlow Version 5, section 5)
-pub record FlowEntry : Type 0 where
-  pub mark : ℕ
-  pub pool : ℕ
-  pub drops : ℕ
-  pub rate : ℕ
-
-abbrev pub mark_of : FlowEntry → ℕ
-mark_of e = e.mark
-
-abbrev pub pool_of : FlowEntry → ℕ
-pool_of e = e.pool
-
-abbrev pub drops_of : FlowEntry → ℕ
-drops_of e = e.drops
-
-abbrev pub rate_of : FlowEntry → ℕ
-rate_of e = e.rate
-
--- what is to be seen of a ledger of flow samples
+-- what is to be seen of it
 pub record FlowState : Type 0 where
-  pub marks : MarksState
+  -- the ledger of the sample numbers
+  pub numbers : BootsState
   pub pool : Rise
   pub drops : Rise
   pub rate : ℕ
 
--- the ledger stands for these boots, the current one first, each with its samples, the LATEST FIRST
-pub record StandsFor (s : FlowState) (boots : List (List FlowEntry)) : Type 0 where
-  pub marks_stand : marks.StandsFor s.marks (marks_in mark_of boots)
-  pub pool_is : ShowsRise mark_of pool_of s.marks.width s.pool (entered_boots boots)
-  pub drops_are : ShowsRise mark_of drops_of s.marks.width s.drops (entered_boots boots)
-  pub rate_is : s.rate ≡ last_value mark_of rate_of s.marks.width boots
+-- the ledger stands for these readings
+pub record StandsFor (s : FlowState) (readings : List (List SampleReading)) : Type 0 where
+  pub numbers_stand : boots.StandsFor s.numbers (marks_in mark_in readings)
+  pub pool_is : ShowsRise mark_in pool_in s.numbers.marks.width s.pool (entered_boots readings)
+  pub drops_are : ShowsRise mark_in drops_in s.numbers.marks.width s.drops (entered_boots readings)
+  pub rate_is : s.rate ≡ last_value mark_in rate_in s.numbers.marks.width readings

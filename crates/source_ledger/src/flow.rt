@@ -1,15 +1,14 @@
-ghost use Rattle.std.specs.Prelude.{◌≡◌, ℕ, ◌+◌, ◌^◌, ◌<◌, ◌≤◌, List, [], ◌∷◌, length, map};
+ghost use Rattle.std.specs.Prelude.{◌≡◌, ℕ, ◌+◌, ◌^◌, ◌<◌, ◌≤◌, true, List, [], ◌∷◌, length, map};
 ghost use Rattle.std.specs.List.{sum_by};
 ghost use Rattle.count_spec.specs.Windows.{answer, counted};
-ghost use Rattle.late_window.specs.Answers.{answer_of};
-ghost use Rattle.books_spec.specs.Views.{flow_view};
+ghost use Rattle.books_spec.specs.Books.{mark_in, readings_view};
+ghost use Rattle.books_spec.specs.declared.reading.SampleReading.{SampleReading};
 ghost use Rattle.source_ledger.specs.Boots.{entered_boots};
-ghost use Rattle.source_ledger.specs.Flows.{FlowEntry, StandsFor, mark_of, pool_of, drops_of, rate_of};
-ghost use Rattle.source_ledger.specs.Views.{view_of};
+ghost use Rattle.source_ledger.specs.Flows.{StandsFor};
 
-use crate::LedgerView;
-use crate::marks::MarkLedger;
+use crate::boots::BootLedger;
 use crate::rise::{Rise, newest_value};
+use books_spec::LedgerView;
 use late_window::Entered;
 use std::marker::Model;
 
@@ -17,7 +16,7 @@ use std::marker::Model;
 /// and of the drops, and the sampling rate.
 #[derive(Debug, Drop)]
 pub struct FlowLedger {
-    marks: MarkLedger,
+    numbers: BootLedger,
     /// The sample pool, in packets.
     pool: Rise,
     /// The drops, in packets.
@@ -44,12 +43,12 @@ impl FlowLedger {
         requires width_from { 1 ≤ width }
         requires width_to { width ≤ 1024 }
         ensures stands { StandsFor result [] }
-        ensures width { result.marks.width ≡ width }
-        ensures boot { result.marks.boot ≡ 0 }
-        ensures entered { result.marks.entered ≡ 0 }
+        ensures width { result.numbers.marks.width ≡ width }
+        ensures boot { result.numbers.boot ≡ 0 }
+        ensures entered { result.numbers.marks.entered ≡ 0 }
     {
         FlowLedger {
-            marks: MarkLedger::open(width),
+            numbers: BootLedger::open(width),
             pool: Rise::none(),
             drops: Rise::none(),
             rate: 0,
@@ -59,22 +58,22 @@ impl FlowLedger {
     /// Enters a flow sample of this boot, which is `boot()` or a later one; a later one closes the last. Fewer
     /// than 2^62 samples were entered before. Pool, drops and rate count where the answer is `First`.
     pub fn enter(&mut self, boot: u64, mark: u32, pool: u32, drops: u32, rate: u32) -> Entered
-        requires boot_from { self.old.marks.boot ≤ boot }
+        requires boot_from { self.old.numbers.boot ≤ boot }
         requires boot_counts { 1 ≤ boot }
-        requires few { self.old.marks.entered < 2 ^ 62 }
-        ensures stands { (current : List FlowEntry) (closed : List (List FlowEntry)) → length closed + 1 ≡ boot
-            → StandsFor self.old (current ∷ closed)
+        requires few { self.old.numbers.marks.entered < 2 ^ 62 }
+        ensures stands { (current : List SampleReading) (closed : List (List SampleReading))
+            → length closed + 1 ≡ boot → StandsFor self.old (current ∷ closed)
             → StandsFor self.new
-            ((record { mark = mark; pool = pool; drops = drops; rate = rate } ∷ current) ∷ closed) }
-        ensures answer { (current : List FlowEntry) (closed : List (List FlowEntry)) → length closed + 1 ≡ boot
-            → StandsFor self.old (current ∷ closed)
-            → answer_of result
-            ≡ answer self.old.marks.width (counted self.old.marks.width (map mark_of current)) mark }
-        ensures width { self.new.marks.width ≡ self.old.marks.width }
-        ensures boot { self.new.marks.boot ≡ boot }
-        ensures entered { self.new.marks.entered ≡ self.old.marks.entered + 1 }
+            ((record { sequence = mark; pool = pool; drops = drops; rate = rate } ∷ current) ∷ closed) }
+        ensures answer { (current : List SampleReading) (closed : List (List SampleReading))
+            → length closed + 1 ≡ boot → StandsFor self.old (current ∷ closed)
+            → result ≡ answer self.old.numbers.marks.width
+            (counted self.old.numbers.marks.width (map mark_in current)) mark }
+        ensures width { self.new.numbers.marks.width ≡ self.old.numbers.marks.width }
+        ensures boot { self.new.numbers.boot ≡ boot }
+        ensures entered { self.new.numbers.marks.entered ≡ self.old.numbers.marks.entered + 1 }
     {
-        let answer = self.marks.enter(boot, mark);
+        let answer = self.numbers.enter(boot, mark);
         self.pool.enter(answer, pool);
         self.drops.enter(answer, drops);
         self.rate = newest_value(answer, rate, self.rate);
@@ -83,35 +82,36 @@ impl FlowLedger {
 
     /// The number of the boot that was entered last; 0 where there is none.
     pub fn boot(&self) -> u64
-        ensures value { result ≡ self.now.marks.boot }
-        ensures boots { (boots : List (List FlowEntry)) → StandsFor self.now boots
-            → result ≡ length (entered_boots boots) }
+        ensures value { result ≡ self.now.numbers.boot }
+        ensures boots { (readings : List (List SampleReading)) → StandsFor self.now readings
+            → result ≡ length (entered_boots readings) }
     {
-        self.marks.boot()
+        self.numbers.boot()
     }
 
     /// How many samples were entered.
     pub fn entered(&self) -> u64
-        ensures value { result ≡ self.now.marks.entered }
-        ensures samples { (boots : List (List FlowEntry)) → StandsFor self.now boots
-            → result ≡ sum_by length boots }
+        ensures value { result ≡ self.now.numbers.marks.entered }
+        ensures samples { (readings : List (List SampleReading)) → StandsFor self.now readings
+            → result ≡ sum_by length readings }
     {
-        self.marks.entered()
+        self.numbers.entered()
     }
 
     /// Sums over all boots up to this one, which is `boot()` or a later one; a later one closes the last. The
     /// rate is that at the greatest number of the last boot that has a sample.
     pub fn view(&self, boot: u64) -> LedgerView
-        requires { self.now.marks.boot ≤ boot }
-        ensures view { (boots : List (List FlowEntry)) → length boots ≡ boot → StandsFor self.now boots
-            → view_of result ≡ flow_view mark_of pool_of drops_of rate_of self.now.marks.width boots }
+        requires { self.now.numbers.boot ≤ boot }
+        ensures view { (readings : List (List SampleReading)) → length readings ≡ boot
+            → StandsFor self.now readings
+            → result ≡ readings_view true self.now.numbers.marks.width readings }
         ensures conserved { result.issued ≡ result.received + result.pending + result.lost }
     {
         LedgerView {
             pool: self.pool.total,
             drops: self.drops.total,
             rate: self.rate,
-            ..self.marks.view(boot)
+            ..self.numbers.view(boot)
         }
     }
 }

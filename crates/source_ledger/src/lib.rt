@@ -5,19 +5,19 @@
 //! number, and sums. It is told of a boot by the number of the boot, from 1 on.
 #![tactic(auto)]
 
-mod counter;
+mod boots;
 mod flow;
 pub mod laws;
 mod marks;
 mod rise;
-mod stream;
-mod view;
 
-pub use counter::CounterLedger;
+pub use books_spec::LedgerView;
+pub use boots::BootLedger;
 pub use flow::FlowLedger;
 pub use late_window::{Entered, Place};
-pub use stream::StreamLedger;
-pub use view::LedgerView;
 
-#[cfg(test)]
-mod tests;
+/// The datagram numbers of a stream over its boots.
+pub type StreamLedger = BootLedger;
+
+/// The sample numbers of a source of counters samples over the boots of its stream.
+pub type CounterLedger = BootLedger;

@@ -1,36 +1,31 @@
-ghost use Rattle.std.specs.Prelude.{◌≡◌, ℕ, ◌+◌, ◌*◌, ◌^◌, ◌<◌, ◌≤◌, cond, List, [], ◌∷◌, length};
+ghost use Rattle.std.specs.Prelude.{◌≡◌, ℕ, ◌+◌, ◌^◌, ◌<◌, ◌≤◌, cond, List, [], ◌∷◌, length};
 ghost use Rattle.std.specs.List.{sum_by};
 ghost use Rattle.count_spec.specs.Windows.{answer, counted, is_repeat, is_late};
-ghost use Rattle.late_window.specs.Answers.{answer_of};
-ghost use Rattle.books_spec.specs.Views.{figures_of, sum_of, closed_figures, plain_view};
-ghost use Rattle.source_ledger.specs.Boots.{entered_boots, first_boot, other_boots};
-ghost use Rattle.source_ledger.specs.Marks.{ShowsBoots, StandsFor};
-ghost use Rattle.source_ledger.specs.Views.{figures_in, view_of};
+ghost use Rattle.books_spec.specs.Views.{plain_view};
+ghost use Rattle.source_ledger.specs.Marks.{StandsFor};
 
-use crate::LedgerView;
+use books_spec::LedgerView;
 use late_window::{Entered, Window};
 use std::marker::Model;
 
-/// The marks of one stream or source over its boots: a window for the boot that was entered last, and sums.
+/// The marks of one stream or source over stretches: a window for the current stretch, and sums over the closed ones.
 #[derive(Debug, Drop)]
 pub struct MarkLedger {
-    /// The width of each boot's window.
+    /// The width of each stretch's window.
     width: u32,
-    /// The number of the boot that was entered last; 0 where there is none.
-    boot: u64,
     /// How many marks were entered.
     entered: u64,
-    /// How many numbers were issued in the boots before the last.
+    /// How many numbers were issued in the closed stretches.
     issued: u128,
     /// How many of them were received.
     received: u64,
-    /// How many of them are lost, with those that were pending when their boot ended.
+    /// How many of them are lost, with those that were pending when their stretch was closed.
     lost: u128,
-    /// How many marks of all boots brought a number once more.
+    /// How many marks of all stretches brought a number once more.
     repeated: u64,
-    /// How many marks of all boots came too late.
+    /// How many marks of all stretches came too late.
     late: u64,
-    /// The numbers of the last boot.
+    /// The numbers of the current stretch.
     window: Window,
 }
 
@@ -53,12 +48,10 @@ impl MarkLedger {
         requires width_to { width ≤ 1024 }
         ensures stands { StandsFor result [] }
         ensures width { result.width ≡ width }
-        ensures boot { result.boot ≡ 0 }
         ensures entered { result.entered ≡ 0 }
     {
         MarkLedger {
             width,
-            boot: 0,
             entered: 0,
             issued: 0,
             received: 0,
@@ -69,66 +62,49 @@ impl MarkLedger {
         }
     }
 
-    /// Enters a mark of this boot.
-    pub fn enter(&mut self, boot: u64, mark: u32) -> Entered
-        requires boot_from { self.old.boot ≤ boot }
-        requires boot_counts { 1 ≤ boot }
+    /// Enters a mark into the current stretch, of fewer than 2^62 entered before.
+    pub fn enter(&mut self, mark: u32) -> Entered
         requires few { self.old.entered < 2 ^ 62 }
-        ensures stands { (current : List ℕ) (closed : List (List ℕ)) → length closed + 1 ≡ boot
-            → StandsFor self.old (current ∷ closed) → StandsFor self.new ((mark ∷ current) ∷ closed) }
-        ensures answer { (current : List ℕ) (closed : List (List ℕ)) → length closed + 1 ≡ boot
-            → StandsFor self.old (current ∷ closed)
-            → answer_of result ≡ answer self.old.width (counted self.old.width current) mark }
+        ensures stands { (current : List ℕ) (closed : List (List ℕ)) → StandsFor self.old (current ∷ closed)
+            → StandsFor self.new ((mark ∷ current) ∷ closed) }
+        ensures answer { (current : List ℕ) (closed : List (List ℕ)) → StandsFor self.old (current ∷ closed)
+            → result ≡ answer self.old.width (counted self.old.width current) mark }
         ensures width { self.new.width ≡ self.old.width }
-        ensures boot { self.new.boot ≡ boot }
         ensures entered { self.new.entered ≡ self.old.entered + 1 }
     {
-        self.begin(boot);
-        self.add(mark)
+        let answer = self.window.enter(mark);
+        self.repeated += repeats(answer);
+        self.late += lates(answer);
+        self.entered += 1;
+        answer
     }
 
-    /// The number of the boot that was entered last; 0 where there is none.
-    pub fn boot(&self) -> u64
-        ensures value { result ≡ self.now.boot }
-        ensures boots { (boots : List (List ℕ)) → StandsFor self.now boots → result ≡ length (entered_boots boots) }
+    /// Closes the current stretch: what was pending is lost, and an empty stretch is the current one.
+    pub fn close(&mut self)
+        ensures stands { (stretches : List (List ℕ)) → StandsFor self.old stretches
+            → StandsFor self.new ([] ∷ stretches) }
+        ensures width { self.new.width ≡ self.old.width }
+        ensures entered { self.new.entered ≡ self.old.entered }
     {
-        self.boot
+        self.issued += self.window.issued();
+        self.received += self.window.received();
+        self.lost += self.window.lost() + self.window.pending() as u128;
+        self.window = Window::open(self.width);
     }
 
     /// How many marks were entered.
     pub fn entered(&self) -> u64
         ensures value { result ≡ self.now.entered }
-        ensures marks { (boots : List (List ℕ)) → StandsFor self.now boots → result ≡ sum_by length boots }
+        ensures marks { (stretches : List (List ℕ)) → StandsFor self.now stretches
+            → result ≡ sum_by length stretches }
     {
         self.entered
     }
 
-    /// Sums over all boots up to this one. Where it is greater than the last one, that is closed.
-    pub fn view(&self, boot: u64) -> LedgerView
-        requires { self.now.boot ≤ boot }
-        ensures view { (boots : List (List ℕ)) → length boots ≡ boot → StandsFor self.now boots
-            → view_of result ≡ plain_view self.now.width boots }
-        ensures conserved { result.issued ≡ result.received + result.pending + result.lost }
-    {
-        let view = self.last_view();
-        if boot > self.boot {
-            return LedgerView {
-                pending: 0,
-                lost: view.lost + view.pending as u128,
-                ..view
-            };
-        }
-        view
-    }
-
-    // Sums over all boots, the last of which may go on.
-    fn last_view(&self) -> LedgerView
-        ensures figures { (boots : List (List ℕ)) → ShowsBoots self.now boots → figures_in result
-            ≡ sum_of (figures_of self.now.width (first_boot boots))
-            (closed_figures self.now.width (other_boots boots)) }
-        ensures pool { result.pool ≡ 0 }
-        ensures drops { result.drops ≡ 0 }
-        ensures rate { result.rate ≡ 0 }
+    /// Sums over all stretches, the current one of which may go on. Pool, drops and rate are 0.
+    pub fn view(&self) -> LedgerView
+        ensures view { (stretches : List (List ℕ)) → StandsFor self.now stretches
+            → result ≡ plain_view self.now.width stretches }
         ensures conserved { result.issued ≡ result.received + result.pending + result.lost }
     {
         LedgerView {
@@ -144,47 +120,24 @@ impl MarkLedger {
         }
     }
 
-    // This boot is the last from now on. The one before is closed where this is a later one.
-    fn begin(&mut self, boot: u64)
-        requires boot_from { self.old.boot ≤ boot }
-        requires few { self.old.entered < 2 ^ 62 }
-        ensures shows { (current : List ℕ) (closed : List (List ℕ)) → length closed + 1 ≡ boot
-            → StandsFor self.old (current ∷ closed) → ShowsBoots self.new (current ∷ closed) }
-        ensures width { self.new.width ≡ self.old.width }
-        ensures boot { self.new.boot ≡ boot }
-        ensures entered { self.new.entered ≡ self.old.entered }
+    /// What `view` would show after `close`.
+    pub fn closed_view(&self) -> LedgerView
+        ensures view { (stretches : List (List ℕ)) → StandsFor self.now stretches
+            → result ≡ plain_view self.now.width ([] ∷ stretches) }
+        ensures conserved { result.issued ≡ result.received + result.pending + result.lost }
     {
-        if boot > self.boot {
-            self.issued += self.window.issued();
-            self.received += self.window.received();
-            self.lost += self.window.lost() + self.window.pending() as u128;
-            self.window = Window::open(self.width);
-            self.boot = boot;
+        let view = self.view();
+        LedgerView {
+            pending: 0,
+            lost: view.lost + view.pending as u128,
+            ..view
         }
-    }
-
-    // Enters a mark of the last boot.
-    fn add(&mut self, mark: u32) -> Entered
-        requires few { self.old.entered < 2 ^ 62 }
-        ensures shows { (current : List ℕ) (closed : List (List ℕ)) → ShowsBoots self.old (current ∷ closed)
-            → ShowsBoots self.new ((mark ∷ current) ∷ closed) }
-        ensures answer { (current : List ℕ) (closed : List (List ℕ)) → ShowsBoots self.old (current ∷ closed)
-            → answer_of result ≡ answer self.old.width (counted self.old.width current) mark }
-        ensures width { self.new.width ≡ self.old.width }
-        ensures boot { self.new.boot ≡ self.old.boot }
-        ensures entered { self.new.entered ≡ self.old.entered + 1 }
-    {
-        let answer = self.window.enter(mark);
-        self.repeated += repeats(answer);
-        self.late += lates(answer);
-        self.entered += 1;
-        answer
     }
 }
 
 // 1 for a Repeat, and else 0.
 fn repeats(answer: Entered) -> u64
-    ensures { result ≡ cond (is_repeat (answer_of answer)) 1 0 }
+    ensures { result ≡ cond (is_repeat answer) 1 0 }
 {
     match answer {
         Entered::Repeat => 1,
@@ -194,7 +147,7 @@ fn repeats(answer: Entered) -> u64
 
 // 1 where the mark was Late, and else 0.
 fn lates(answer: Entered) -> u64
-    ensures { result ≡ cond (is_late (answer_of answer)) 1 0 }
+    ensures { result ≡ cond (is_late answer) 1 0 }
 {
     match answer {
         Entered::Late => 1,

@@ -1,5 +1,4 @@
 ghost use Rattle.std.specs.Prelude.{◌≡◌, ◌+◌, ◌<◌, ◌≤◌, ◌^◌};
-ghost use Rattle.late_window.specs.Answers.{answer_of};
 ghost use Rattle.source_ledger.specs.Rises.{risen, greatest_after};
 
 use late_window::{Entered, Place};
@@ -30,7 +29,7 @@ impl Rise {
     /// Enters the value that a number shows, by the window's answer to it. Values go on from 2^32 - 1 to 0.
     pub fn enter(&mut self, answer: Entered, value: u32)
         requires few { self.old.total < 2 ^ 100 }
-        ensures risen { self.new ≡ risen self.old (answer_of answer) value }
+        ensures risen { self.new ≡ risen self.old answer value }
         ensures few { self.new.total < self.old.total + 2 ^ 32 }
     {
         if let Entered::First { place, .. } = answer {
@@ -55,7 +54,7 @@ impl Rise {
 
 /// The value at the greatest number, after a number that shows `new` was answered so.
 pub fn newest_value(answer: Entered, new: u32, old: u32) -> u32
-    ensures { result ≡ greatest_after (answer_of answer) new old }
+    ensures { result ≡ greatest_after answer new old }
 {
     match answer {
         Entered::First {

@@ -1,4 +1,2 @@
-pub mod Taken
 pub mod Streams
-pub mod Readings
 pub mod Sources

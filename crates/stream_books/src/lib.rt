@@ -3,17 +3,16 @@
 //! the rate (sFlow Version 5, section 5).
 #![tactic(auto)]
 
+pub mod laws;
 mod place;
-mod reading;
 mod source;
 mod stream;
 mod taken;
 
-pub use reading::SampleReading;
+pub use books_spec::{LedgerView, SampleReading, Taken};
+pub use late_window::Entered;
 pub use source::SourceRecord;
-pub use source_ledger::LedgerView;
 pub use stream::StreamRecord;
-pub use taken::Taken;
 
 #[cfg(test)]
 mod tests;

@@ -1,17 +1,7 @@
 ghost use Rattle.std.specs.Prelude.{◌≡◌, ◌^◌, ◌≤◌, pos, ◌+ℤ◌, ◌-ℤ◌, ◌≤ℤ◌};
 ghost use Rattle.count_spec.specs.Boots.{is_near_multiple, place_at};
-ghost use Rattle.stream_books.specs.Taken.{boot_place_of};
 
-/// Where a datagram belongs.
-#[derive(Debug, Clone, Copy, PartialEq, Eq)]
-pub enum BootPlace {
-    /// In the current boot.
-    Current,
-    /// In the next boot, which it begins.
-    Next,
-    /// In an earlier boot, so in none.
-    Stale,
-}
+use count_spec::BootPlace;
 
 // Whether the difference of two boot marks is at most the slack away from a multiple of 2^32, in ms.
 fn is_near_multiple_of_wrap(slack: u32, difference: i128) -> bool
@@ -27,7 +17,7 @@ fn is_near_multiple_of_wrap(slack: u32, difference: i128) -> bool
 pub fn place_of(slack: u32, difference: i128) -> BootPlace
     requires from { pos 0 ≤ℤ (difference +ℤ pos (2 ^ 65)) }
     requires to { difference ≤ℤ pos (2 ^ 65) }
-    ensures { boot_place_of result ≡ place_at slack difference }
+    ensures { result ≡ place_at slack difference }
 {
     if is_near_multiple_of_wrap(slack, difference) {
         BootPlace::Current

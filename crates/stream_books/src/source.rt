@@ -1,12 +1,12 @@
-ghost use Rattle.std.specs.Prelude.{◌≡◌, ℕ, ◌+◌, ◌^◌, ◌<◌, ◌≤◌, true, false, List, [], ◌∷◌, length};
-ghost use Rattle.books_spec.specs.Items.{Reading};
-ghost use Rattle.books_spec.specs.Books.{readings_view};
-ghost use Rattle.source_ledger.specs.Views.{view_of};
-ghost use Rattle.stream_books.specs.Readings.{reading_in};
+ghost use Rattle.std.specs.Prelude.{◌≡◌, ◌+◌, ◌^◌, ◌<◌, ◌≤◌, true, false, List, [], ◌∷◌, length, map};
+ghost use Rattle.count_spec.specs.Windows.{answer, counted};
+ghost use Rattle.books_spec.specs.Books.{mark_in, readings_view};
+ghost use Rattle.books_spec.specs.declared.reading.SampleReading.{SampleReading as Reading};
 ghost use Rattle.stream_books.specs.Sources.{StandsFor, is_flow, width_of, boot_of, entered_count};
 
-use crate::SampleReading;
-use source_ledger::{CounterLedger, FlowLedger, LedgerView};
+use books_spec::{LedgerView, SampleReading};
+use late_window::Entered;
+use source_ledger::{CounterLedger, FlowLedger};
 
 /// What a collector keeps of one source.
 #[derive(Debug, Drop)]
@@ -46,31 +46,30 @@ impl SourceRecord {
 
     /// Enters what a sample of this boot shows; a boot later than that of the last one closes it. Fewer than 2^62
     /// samples were entered before.
-    pub fn enter(&mut self, boot: u64, reading: SampleReading)
+    pub fn enter(&mut self, boot: u64, reading: SampleReading) -> Entered
         requires boot_from { boot_of self.old ≤ boot }
         requires boot_counts { 1 ≤ boot }
         requires few { entered_count self.old < 2 ^ 62 }
-        ensures stands { (r : Reading) (current : List Reading) (closed : List (List Reading))
-            → r ≡ reading_in reading → length closed + 1 ≡ boot
-            → StandsFor self.old (current ∷ closed) → StandsFor self.new ((r ∷ current) ∷ closed) }
+        ensures stands { (current : List Reading) (closed : List (List Reading)) → length closed + 1 ≡ boot
+            → StandsFor self.old (current ∷ closed) → StandsFor self.new ((reading ∷ current) ∷ closed) }
+        ensures answer { (current : List Reading) (closed : List (List Reading)) → length closed + 1 ≡ boot
+            → StandsFor self.old (current ∷ closed)
+            → result ≡ answer (width_of self.old) (counted (width_of self.old) (map mark_in current))
+            reading.sequence }
         ensures kind { is_flow self.new ≡ is_flow self.old }
         ensures width { width_of self.new ≡ width_of self.old }
         ensures boot { boot_of self.new ≡ boot }
         ensures entered { entered_count self.new ≡ entered_count self.old + 1 }
     {
         match self {
-            SourceRecord::Flow(ledger) => {
-                ledger.enter(
-                    boot,
-                    reading.sequence,
-                    reading.pool,
-                    reading.drops,
-                    reading.rate,
-                );
-            }
-            SourceRecord::Counters(ledger) => {
-                ledger.enter(boot, reading.sequence);
-            }
+            SourceRecord::Flow(ledger) => ledger.enter(
+                boot,
+                reading.sequence,
+                reading.pool,
+                reading.drops,
+                reading.rate,
+            ),
+            SourceRecord::Counters(ledger) => ledger.enter(boot, reading.sequence),
         }
     }
 
@@ -78,7 +77,7 @@ impl SourceRecord {
     pub fn view(&self, boot: u64) -> LedgerView
         requires { boot_of self.now ≤ boot }
         ensures view { (boots : List (List Reading)) → length boots ≡ boot → StandsFor self.now boots
-            → view_of result ≡ readings_view (is_flow self.now) (width_of self.now) boots }
+            → result ≡ readings_view (is_flow self.now) (width_of self.now) boots }
         ensures conserved { result.issued ≡ result.received + result.pending + result.lost }
     {
         match self {

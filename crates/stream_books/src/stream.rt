@@ -1,18 +1,17 @@
 ghost use Rattle.std.specs.Prelude.{◌≡◌, ℕ, ◌+◌, ◌-◌, ◌^◌, ◌<◌, ◌≤◌, cond, List, [], ◌∷◌, length, map, pos, ◌-ℤ◌, ◌+ℤ◌, ◌≤ℤ◌};
 ghost use Rattle.count_spec.specs.Boots.{sequences, boot_mark, boot_place, boots, stale_items};
 ghost use Rattle.count_spec.specs.Windows.{answer, counted, is_newest};
-ghost use Rattle.late_window.specs.Answers.{answer_of};
 ghost use Rattle.books_spec.specs.Views.{plain_view};
 ghost use Rattle.books_spec.specs.Items.{Datagram, stamp_of};
 ghost use Rattle.books_spec.specs.Books.{taken_at, taken_of};
-ghost use Rattle.source_ledger.specs.Views.{view_of};
-ghost use Rattle.stream_books.specs.Taken.{taken_in_books, boot_place_of};
 ghost use Rattle.stream_books.specs.Streams.{StandsFor, ShowsStream, IsAt, place_after};
 
-use crate::Taken;
-use crate::place::{BootPlace, place_of};
+use crate::place::place_of;
+use crate::taken::taken_by;
+use books_spec::{LedgerView, Taken};
+use count_spec::BootPlace;
 use late_window::{Entered, Place};
-use source_ledger::{LedgerView, StreamLedger};
+use source_ledger::StreamLedger;
 use std::marker::Model;
 
 /// What a collector keeps of one stream.
@@ -42,8 +41,8 @@ impl StreamRecord {
         requires width_from { 1 ≤ width }
         requires width_to { width ≤ 1024 }
         ensures stands { (slack : ℕ) → StandsFor slack result [] }
-        ensures width { result.ledger.width ≡ width }
-        ensures entered { result.ledger.entered ≡ 0 }
+        ensures width { result.ledger.marks.width ≡ width }
+        ensures entered { result.ledger.marks.entered ≡ 0 }
         ensures stale { result.stale ≡ 0 }
     {
         StreamRecord {
@@ -56,16 +55,16 @@ impl StreamRecord {
     /// Takes a datagram of the stream, with its arrival and its uptime in ms and its sequence word; the boot marks of
     /// one boot may differ by the slack, in ms. Fewer than 2^62 datagrams were taken before.
     pub fn take(&mut self, slack: u32, arrival: u64, uptime: u32, sequence: u32) -> Taken
-        requires few { self.old.ledger.entered + self.old.stale < 2 ^ 62 }
+        requires few { self.old.ledger.marks.entered + self.old.stale < 2 ^ 62 }
         ensures stands { (d : Datagram) (ds : List Datagram) → IsAt d arrival uptime sequence
             → StandsFor slack self.old ds → StandsFor slack self.new (d ∷ ds) }
         ensures answer { (d : Datagram) (ds : List Datagram) → IsAt d arrival uptime sequence
             → StandsFor slack self.old ds
-            → let bs = boots stamp_of slack self.old.ledger.width ds in
-            taken_in_books result ≡ taken_at self.old.ledger.width
-            (boot_place stamp_of slack self.old.ledger.width bs d) bs sequence }
-        ensures width { self.new.ledger.width ≡ self.old.ledger.width }
-        ensures taken { self.new.ledger.entered + self.new.stale ≡ self.old.ledger.entered + self.old.stale + 1 }
+            → let bs = boots stamp_of slack self.old.ledger.marks.width ds in
+            result ≡ taken_at self.old.ledger.marks.width
+            (boot_place stamp_of slack self.old.ledger.marks.width bs d) bs sequence }
+        ensures width { self.new.ledger.marks.width ≡ self.old.ledger.marks.width }
+        ensures taken { self.new.ledger.marks.entered + self.new.stale ≡ self.old.ledger.marks.entered + self.old.stale + 1 }
     {
         let start = arrival as i128 - uptime as i128;
         match self.place(slack, start) {
@@ -79,7 +78,7 @@ impl StreamRecord {
     pub fn boots(&self) -> u64
         ensures value { result ≡ self.now.ledger.boot }
         ensures boots { (slack : ℕ) (ds : List Datagram) → StandsFor slack self.now ds
-            → result ≡ length (boots stamp_of slack self.now.ledger.width ds) }
+            → result ≡ length (boots stamp_of slack self.now.ledger.marks.width ds) }
     {
         self.ledger.boot()
     }
@@ -88,7 +87,7 @@ impl StreamRecord {
     pub fn stale(&self) -> u64
         ensures value { result ≡ self.now.stale }
         ensures items { (slack : ℕ) (ds : List Datagram) → StandsFor slack self.now ds
-            → result ≡ length (stale_items stamp_of slack self.now.ledger.width ds) }
+            → result ≡ length (stale_items stamp_of slack self.now.ledger.marks.width ds) }
     {
         self.stale
     }
@@ -96,8 +95,8 @@ impl StreamRecord {
     /// The datagram numbers over all boots.
     pub fn view(&self) -> LedgerView
         ensures view { (slack : ℕ) (ds : List Datagram) → StandsFor slack self.now ds
-            → view_of result ≡ plain_view self.now.ledger.width
-            (map (sequences stamp_of) (boots stamp_of slack self.now.ledger.width ds)) }
+            → result ≡ plain_view self.now.ledger.marks.width
+            (map (sequences stamp_of) (boots stamp_of slack self.now.ledger.marks.width ds)) }
         ensures conserved { result.issued ≡ result.received + result.pending + result.lost }
     {
         self.ledger.view(self.ledger.boot())
@@ -107,7 +106,7 @@ impl StreamRecord {
     fn place(&self, slack: u32, start: i128) -> BootPlace
         requires from { pos 0 ≤ℤ (start +ℤ pos (2 ^ 32)) }
         requires to { start ≤ℤ pos (2 ^ 64) }
-        ensures { boot_place_of result ≡ place_after slack self.now start }
+        ensures { result ≡ place_after slack self.now start }
     {
         if self.ledger.boot() == 0 {
             return BootPlace::Next;
@@ -117,7 +116,7 @@ impl StreamRecord {
 
     // A datagram of the current boot.
     fn enter(&mut self, start: i128, sequence: u32) -> Taken
-        requires few { self.old.ledger.entered + self.old.stale < 2 ^ 62 }
+        requires few { self.old.ledger.marks.entered + self.old.stale < 2 ^ 62 }
         requires begun { 1 ≤ self.old.ledger.boot }
         requires from { pos 0 ≤ℤ (start +ℤ pos (2 ^ 32)) }
         requires to { start ≤ℤ pos (2 ^ 64) }
@@ -126,28 +125,28 @@ impl StreamRecord {
             → ShowsStream self.old (current ∷ closed) stale → ShowsStream self.new ((d ∷ current) ∷ closed) stale }
         ensures answer { (current : List Datagram) (closed : List (List Datagram)) (stale : List Datagram)
             → ShowsStream self.old (current ∷ closed) stale
-            → taken_in_books result ≡ taken_of (answer self.old.ledger.width
-            (counted self.old.ledger.width (sequences stamp_of current)) sequence) }
-        ensures width { self.new.ledger.width ≡ self.old.ledger.width }
-        ensures taken { self.new.ledger.entered + self.new.stale ≡ self.old.ledger.entered + self.old.stale + 1 }
+            → result ≡ taken_of (answer self.old.ledger.marks.width
+            (counted self.old.ledger.marks.width (sequences stamp_of current)) sequence) }
+        ensures width { self.new.ledger.marks.width ≡ self.old.ledger.marks.width }
+        ensures taken { self.new.ledger.marks.entered + self.new.stale ≡ self.old.ledger.marks.entered + self.old.stale + 1 }
     {
         let boot = self.ledger.boot();
         let entered = self.ledger.enter(boot, sequence);
         self.newest = newest_of(entered, start, self.newest);
-        Taken::of(entered)
+        taken_by(entered)
     }
 
     // A datagram that begins a boot.
     fn begin(&mut self, start: i128, sequence: u32) -> Taken
-        requires few { self.old.ledger.entered + self.old.stale < 2 ^ 62 }
+        requires few { self.old.ledger.marks.entered + self.old.stale < 2 ^ 62 }
         requires from { pos 0 ≤ℤ (start +ℤ pos (2 ^ 32)) }
         requires to { start ≤ℤ pos (2 ^ 64) }
         ensures stands { (d : Datagram) (bs : List (List Datagram)) (stale : List Datagram)
             → boot_mark (stamp_of d) ≡ start → d.head.sequence ≡ sequence
             → ShowsStream self.old bs stale → ShowsStream self.new ((d ∷ []) ∷ bs) stale }
         ensures answer { result ≡ Taken.First }
-        ensures width { self.new.ledger.width ≡ self.old.ledger.width }
-        ensures taken { self.new.ledger.entered + self.new.stale ≡ self.old.ledger.entered + self.old.stale + 1 }
+        ensures width { self.new.ledger.marks.width ≡ self.old.ledger.marks.width }
+        ensures taken { self.new.ledger.marks.entered + self.new.stale ≡ self.old.ledger.marks.entered + self.old.stale + 1 }
     {
         let boot = self.ledger.boot() + 1;
         self.ledger.enter(boot, sequence);
@@ -157,12 +156,12 @@ impl StreamRecord {
 
     // A datagram of an earlier boot.
     fn pass(&mut self) -> Taken
-        requires few { self.old.ledger.entered + self.old.stale < 2 ^ 62 }
+        requires few { self.old.ledger.marks.entered + self.old.stale < 2 ^ 62 }
         ensures stands { (d : Datagram) (bs : List (List Datagram)) (stale : List Datagram)
             → ShowsStream self.old bs stale → ShowsStream self.new bs (d ∷ stale) }
         ensures answer { result ≡ Taken.Stale }
-        ensures width { self.new.ledger.width ≡ self.old.ledger.width }
-        ensures taken { self.new.ledger.entered + self.new.stale ≡ self.old.ledger.entered + self.old.stale + 1 }
+        ensures width { self.new.ledger.marks.width ≡ self.old.ledger.marks.width }
+        ensures taken { self.new.ledger.marks.entered + self.new.stale ≡ self.old.ledger.marks.entered + self.old.stale + 1 }
     {
         self.stale += 1;
         Taken::Stale
@@ -171,7 +170,7 @@ impl StreamRecord {
 
 // The boot mark of the datagram with the greatest number, after this answer to one whose boot mark is `start`.
 fn newest_of(entered: Entered, start: i128, newest: i128) -> i128
-    ensures { result ≡ cond (is_newest (answer_of entered)) start newest }
+    ensures { result ≡ cond (is_newest entered) start newest }
 {
     match entered {
         Entered::First {

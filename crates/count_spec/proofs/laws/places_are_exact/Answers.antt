@@ -1,4 +1,4 @@
-use Rattle.count_spec.specs.Windows.{Only, Newest, Inside, Least}
+use Rattle.count_spec.specs.declared.entered.Place.TheVariants.{Only, Newest, Inside, Least}
 use Rattle.count_spec.proofs.Counted.{first-new, first-place}
 use Rattle.count_spec.proofs.laws.places_are_exact.Goals as goal
 

@@ -2,7 +2,6 @@ use Rattle.std.proofs.Common.{◌≡◌, ◌<◌, ℤ, to_z, of_z, arith, sym, �
 use Rattle.std.specs.Int.{w128}
 use Rattle.std.proofs.lemmas.Int.{ints}
 use Rattle.count_spec.specs.Windows.{near}
-use Rattle.late_window.specs.Answers.{answer_of}
 use Rattle.late_window.specs.States.{WindowState, is_recent}
 use Rattle.late_window.specs.Steps.{IsBeside}
 use Rattle.late_window.specs.declared.side.Side.{Side}
@@ -39,7 +38,7 @@ returns-in-Above-clause-answer c = λ marks st.
     let some : 0 < c.self.inside.received = omega arith in
     let at = beside c.side_of.result (Above c.in-Above.step) c.self.inside.newest c.args.mark same c.side_of.ensures
     c.in-Above.is in
-    ap answer_of c.advance.ensures.answer
+    c.advance.ensures.answer
     ∙ (enters-advanced c.self.inside c.args.self.now c.advance.new.self c.args.mark c.in-Above.step c.self.view_is some at
     c.advance.ensures.advances).answers marks st
 
@@ -58,7 +57,7 @@ returns-in-Below-clause-answer c = λ marks st.
     let some : 0 < c.self.inside.received = omega arith in
     let at = beside c.side_of.result (Below c.in-Below.back) c.self.inside.newest c.args.mark same c.side_of.ensures
     c.in-Below.is in
-    ap answer_of c.pass.ensures.answer
+    c.pass.ensures.answer
     ∙ (enters-late c.self.inside c.args.self.now c.pass.new.self c.args.mark c.in-Below.back c.self.view_is some at c.if-back-self.true
     c.pass.ensures.passes).answers marks st
 
@@ -77,7 +76,7 @@ returns-in-Below-2-clause-answer c = λ marks st.
     let some : 0 < c.self.inside.received = omega arith in
     let at = beside c.side_of.result (Below c.in-Below.back) c.self.inside.newest c.args.mark same c.side_of.ensures
     c.in-Below.is in
-    ap answer_of c.pass-in-Below-2.ensures.answer
+    c.pass-in-Below-2.ensures.answer
     ∙ (enters-repeat c.self.inside c.args.self.now c.pass-in-Below-2.new.self c.args.mark c.in-Below.back c.self.view_is some at c.if-back-self.false (sym c.has.ensures ∙ c.if-has.true)
     c.pass-in-Below-2.ensures.passes).answers marks st
 
@@ -96,7 +95,7 @@ returns-in-Below-3-clause-answer c = λ marks st.
     let some : 0 < c.self.inside.received = omega arith in
     let at = beside c.side_of.result (Below c.in-Below.back) c.self.inside.newest c.args.mark same c.side_of.ensures
     c.in-Below.is in
-    ap answer_of c.extend.ensures.answer
+    c.extend.ensures.answer
     ∙ (enters-extended c.self.inside c.args.self.now c.extend.new.self c.args.mark c.in-Below.back c.self.view_is some at c.if-back-self.false (sym c.has.ensures ∙ c.if-has.false) c.if-back-self-2.true
     c.extend.ensures.fills).answers marks st
 
@@ -115,6 +114,6 @@ returns-in-Below-4-clause-answer c = λ marks st.
     let some : 0 < c.self.inside.received = omega arith in
     let at = beside c.side_of.result (Below c.in-Below.back) c.self.inside.newest c.args.mark same c.side_of.ensures
     c.in-Below.is in
-    ap answer_of c.fill.ensures.answer
+    c.fill.ensures.answer
     ∙ (enters-filled c.self.inside c.args.self.now c.fill.new.self c.args.mark c.in-Below.back c.self.view_is some at c.if-back-self.false (sym c.has.ensures ∙ c.if-has.false) c.if-back-self-2.false
     c.fill.ensures.fills).answers marks st

@@ -1,7 +1,7 @@
 use Rattle.std.proofs.Common.{◌∙◌, ap, map, ◌+◌, ℕ}
 use Rattle.books_spec.specs.Views.{marks_in}
-use Rattle.late_window.specs.Answers.{answer_of}
-use Rattle.source_ledger.specs.Flows.{FlowState, mark_of}
+use Rattle.books_spec.specs.Books.{mark_in}
+use Rattle.source_ledger.specs.Flows.{FlowState}
 use Rattle.source_ledger.specs.Fields.{flow_state}
 use Rattle.source_ledger.proofs.FlowSteps.{boots-length, flow-enters}
 use Rattle.source_ledger.proofs.flow.FlowLedger.enter.Goals as goal
@@ -9,18 +9,18 @@ use Rattle.source_ledger.proofs.flow.FlowLedger.enter.Goals as goal
 pub returns-clause-stands : goal.returns-clause-stands
 returns-clause-stands c =
     let new : FlowState = record {
-      marks = c.enter-answer.new.self;
+      numbers = c.enter-answer.new.self;
       pool = c.enter.new.self;
       drops = c.enter-2.new.self;
       rate = c.newest_value-self-inside.result;
     } in
     rw (← c.self.view_is) (λ current closed number st.
     flow-enters (flow_state c.self.inside) new
-    (record { mark = c.args.mark; pool = c.args.pool; drops = c.args.drops; rate = c.args.rate })
-    (answer_of c.enter-answer.result) current closed st
-    (c.enter-answer.ensures.stands (map mark_of current) (marks_in mark_of closed)
-    (ap (λ (n : ℕ). n + 1) (boots-length closed) ∙ number) st.marks_stand)
+    (record { sequence = c.args.mark; pool = c.args.pool; drops = c.args.drops; rate = c.args.rate })
+    c.enter-answer.result current closed st
+    (c.enter-answer.ensures.stands (map mark_in current) (marks_in mark_in closed)
+    (ap (λ (n : ℕ). n + 1) (boots-length closed) ∙ number) st.numbers_stand)
     c.enter-answer.ensures.width
-    (c.enter-answer.ensures.answer (map mark_of current) (marks_in mark_of closed)
-    (ap (λ (n : ℕ). n + 1) (boots-length closed) ∙ number) st.marks_stand)
+    (c.enter-answer.ensures.answer (map mark_in current) (marks_in mark_in closed)
+    (ap (λ (n : ℕ). n + 1) (boots-length closed) ∙ number) st.numbers_stand)
     c.enter.ensures.risen c.enter-2.ensures.risen c.newest_value-self-inside.ensures)

@@ -2,7 +2,6 @@ use Rattle.std.proofs.Common.{◌≡◌, ◌∙◌, cond, refl, sym, to_z, of_z,
 use Rattle.std.specs.Int.{w128}
 use Rattle.std.proofs.lemmas.Int.{ints}
 use Rattle.count_spec.specs.Windows.{is_newest}
-use Rattle.late_window.specs.Answers.{answer_of}
 use Rattle.stream_books.specs.Streams.{StreamState, stream_state}
 use Rattle.stream_books.proofs.Steps.{joins}
 use Rattle.stream_books.proofs.stream.StreamRecord.enter.Goals as goal
@@ -20,9 +19,9 @@ returns-clause-stands c =
     } in
     rw (← c.self.view_is) (λ d current closed stale mark word st.
     joins (stream_state c.self.inside) new d current closed stale c.args.start c.args.sequence
-    (answer_of c.enter-entered.result) mark word st
+    c.enter-entered.result mark word st
     (λ marks more n old. c.enter-entered.ensures.stands marks more (n ∙ sym c.boot-boot.ensures.value) old)
     (λ marks more n old. c.enter-entered.ensures.answer marks more (n ∙ sym c.boot-boot.ensures.value) old)
     c.enter-entered.ensures.width (c.enter-entered.ensures.boot ∙ c.boot-boot.ensures.value)
     (same ∙ c.newest_of-self-inside.ensures
-    ∙ (λ j. cond (is_newest (answer_of c.enter-entered.result)) (starts j) (olds j))) refl)
+    ∙ (λ j. cond (is_newest c.enter-entered.result) (starts j) (olds j))) refl)

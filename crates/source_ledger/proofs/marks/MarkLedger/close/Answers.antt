@@ -1,14 +1,13 @@
-use Rattle.std.proofs.Common.{refl, ◌+◌, ◌≤◌}
+use Rattle.std.proofs.Common.{refl, ◌+◌}
 use Rattle.source_ledger.specs.Marks.{MarksState}
 use Rattle.source_ledger.specs.Fields.{marks_state}
-use Rattle.source_ledger.proofs.Turns.{turned, stays}
-use Rattle.source_ledger.proofs.marks.MarkLedger.begin.Goals as goal
+use Rattle.source_ledger.proofs.Closing.{stretch-closed}
+use Rattle.source_ledger.proofs.marks.MarkLedger.close.Goals as goal
 
-pub returns-then-boot-self-clause-shows : goal.returns-then-boot-self-clause-shows
-returns-then-boot-self-clause-shows c =
+pub returns-clause-stands : goal.returns-clause-stands
+returns-clause-stands c =
     let new : MarksState = record {
       width = c.self.inside.width;
-      boot = c.args.boot;
       entered = c.self.inside.entered;
       issued = c.self.inside.issued + c.issued.result;
       received = c.self.inside.received + c.received.result;
@@ -17,9 +16,9 @@ returns-then-boot-self-clause-shows c =
       late = c.self.inside.late;
       window = c.open-self-inside.result;
     } in
-    rw (← c.self.view_is) (λ current closed number st.
-    turned (marks_state c.self.inside) new c.args.boot current closed c.issued.result c.received.result
-    c.pending.result c.lost.result c.if-boot-self.true number st
+    rw (← c.self.view_is) (λ stretches st.
+    stretch-closed (marks_state c.self.inside) new stretches c.issued.result c.received.result c.pending.result
+    c.lost.result st
     (record {
       issued_is = c.issued.ensures.part;
       received_is = c.received.ensures.part;
@@ -27,7 +26,6 @@ returns-then-boot-self-clause-shows c =
       lost_is = c.lost.ensures.part;
     })
     (record {
-      boot_is = refl;
       width_is = refl;
       entered_is = refl;
       issued_is = refl;
@@ -38,8 +36,3 @@ returns-then-boot-self-clause-shows c =
       window_width = c.open-self-inside.ensures.width;
       window_is = c.open-self-inside.ensures.stands;
     }))
-
-pub returns-else-boot-self-clause-shows : goal.returns-else-boot-self-clause-shows
-returns-else-boot-self-clause-shows c = λ current closed number st.
-    let last : c.args.boot ≤ c.args.self.now.boot = rw (← c.self.view_is) c.if-boot-self.false in
-    stays c.args.self.now c.args.boot current closed last number st
