@@ -9,7 +9,7 @@ returns-clause-given g c = λ bytes entries are given.
     let before =
     subst
     (λ (reader : ReaderState).
-    HasGiven bytes entries reader.stage (unread reader (g.S.Source.left c.args.source.now)))
+    HasGiven bytes entries reader.stage (unread reader.held (g.S.Source.seen c.args.source.now)))
     (sym c.self.view_is) given in
     rw c.stage_behind-self-inside.ensures.after
     (given_more bytes are entries _ _ _ _ _ before c.read_from-answer.ensures.told
