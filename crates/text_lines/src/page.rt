@@ -7,6 +7,7 @@ ghost use Rattle.text_lines.specs.Pages.{Prints, Flushes};
 use crate::Piece;
 use crate::address::{dotted, grouped};
 use crate::hex::{colons, pair};
+use crate::piece::kind_name;
 use data_format::{Address, Mac};
 use itoa::Buffer;
 use sflow_io::{Failed, Sink, write_all};
@@ -139,6 +140,7 @@ impl Page {
             Piece::Address(address) => self.put_address(sink, address),
             Piece::Hex(bytes) => self.put_hex(sink, bytes),
             Piece::Mac(mac) => self.put_mac(sink, mac),
+            Piece::Kind(kind) => self.put(sink, kind_name(kind).as_bytes()),
         }
     }
 
