@@ -1,8 +1,10 @@
-ghost use Rattle.std.specs.Prelude.{◌≡◌, ◌≤◌, [], ℕ, List, Some, length, IfOk};
+ghost use Rattle.std.specs.Prelude.{◌≡◌, ◌≤◌, [], ℕ, List, Some, Err, length, IfOk};
+ghost use Rattle.sflow_io.specs.declared.capture.ReadRefusal.TheVariants.{ReadFault};
 ghost use Rattle.sflow_io.specs.declared.capture.Stage.TheVariants.{Start, Ended};
 ghost use Rattle.wire_spec.specs.Bytes.{AreBytes};
 ghost use Rattle.wire_spec.specs.Captures.{Entry};
 ghost use Rattle.sflow_io.specs.Seen.{Seen};
+ghost use Rattle.sflow_io.specs.ReadFaults.{StopsAfter};
 ghost use Rattle.sflow_io.specs.CaptureSteps.{HasGiven, with_answer};
 ghost use Rattle.sflow_io.specs.CaptureAnswers.{Answer, Answers, AnswersStart, EndsSource, HasEnded, HasReadCause, LeadsOn, IsPlaced, IsShortEntry, KeepsLimits, ReaderState, length_with_padding, stage_after, unread};
 
@@ -40,7 +42,7 @@ impl CaptureReader {
 
         // It has given nothing of any bytes.
         ensures begins { IfOk result (λ reader. (bytes : List ℕ) (source : Seen) → source.told ≡ Some bytes
-            → HasGiven bytes [] reader.stage (unread reader.held source)) }
+            → HasGiven bytes [] reader source) }
     {
         match ReadAhead::new(alloc) {
             Ok(ahead) => Ok(CaptureReader {
@@ -77,11 +79,11 @@ impl CaptureReader {
         ensures cause { ¬ (HasEnded self.old.stage)
             → HasReadCause (S.seen source.old) (S.seen source.new) result }
 
-        // What was given from the start of the input on stays what a capture's reading gives.
+        // What was given from the start of the input on stays what a capture's reading gives. At a read fault no
+        // whole entry has left the source that wasn't given.
         ensures given { (bytes : List ℕ) (entries : List Entry) → AreBytes bytes
-            → HasGiven bytes entries self.old.stage (unread self.old.held (S.seen source.old))
-            → HasGiven bytes (with_answer entries room.new result) self.new.stage
-            (unread self.new.held (S.seen source.new)) }
+            → HasGiven bytes entries self.old (S.seen source.old)
+            → HasGiven bytes (with_answer entries room.new result) self.new (S.seen source.new) }
     {
         let answer = read_from(self.stage, &mut self.ahead, source, room);
         self.stage = stage_behind(self.stage, answer);
@@ -106,6 +108,8 @@ fn read_from<S: Source>(
     ensures unmoved { HasEnded stage
         → (ahead.new ≡ ahead.old) × (source.new ≡ source.old) × (room.new ≡ room.old) }
     ensures cause { ¬ (HasEnded stage) → HasReadCause (S.seen source.old) (S.seen source.new) result }
+    ensures stops { result ≡ Err ReadFault
+        → StopsAfter stage (unread ahead.old (S.seen source.old)) (S.seen source.new).told }
 {
     match stage {
         Stage::Start => read_first(ahead, source, room),
@@ -132,6 +136,7 @@ fn read_first<S: Source>(
     ensures short { IsShortEntry result }
     ensures at_end { EndsSource result (S.seen source.new).told }
     ensures cause { HasReadCause (S.seen source.old) (S.seen source.new) result }
+    ensures stops { result ≡ Err ReadFault → StopsAfter Start (unread ahead.old (S.seen source.old)) (S.seen source.new).told }
 {
     if let Err(refusal) = read_header(ahead, source) {
         return Err(refusal);

@@ -1,7 +1,10 @@
 // The parts of a capture, each read from its first byte on.
-ghost use Rattle.std.specs.Prelude.{◌≡◌, ◌+◌, ◌^◌, ◌<◌, ◌≤◌, ℕ, List, Some, length, take, drop};
+ghost use Rattle.std.specs.Prelude.{◌≡◌, ◌+◌, ◌^◌, ◌<◌, ◌≤◌, ℕ, List, Some, Err, length, take, drop};
 ghost use Rattle.std.specs.Int.{w32, w64, from_be_bytes};
+ghost use Rattle.wire_spec.specs.Padding.{padding_of};
 ghost use Rattle.wire_spec.specs.CaptureReading.{first_nonzero, front_of, front_of_body, front_of_padding};
+ghost use Rattle.sflow_io.specs.declared.capture.ReadRefusal.TheVariants.{ReadFault};
+ghost use Rattle.sflow_io.specs.ReadFaults.{StopsInEntry, StopsWithin};
 ghost use Rattle.sflow_io.specs.CaptureAnswers.{AnswersFront, AnswersLast, EndsSource, HasReadCause, IsNoEntry, IsShortEntry, unread};
 
 use crate::read_ahead::ReadAhead;
@@ -46,6 +49,7 @@ fn read_padding<S: Source>(
     ensures short { IsShortEntry result }
     ensures at_end { EndsSource result (S.seen source.new).told }
     ensures cause { HasReadCause (S.seen source.old) (S.seen source.new) result }
+    ensures stops { result ≡ Err ReadFault → StopsWithin (unread ahead.old (S.seen source.old)) (S.seen source.new).told (padding_of len) }
 {
     let most = (4 - len % 4) % 4;
     let mut padding = [0u8; 4];
@@ -86,6 +90,7 @@ fn read_body<S: Source>(
     ensures short { IsShortEntry result }
     ensures at_end { EndsSource result (S.seen source.new).told }
     ensures cause { HasReadCause (S.seen source.old) (S.seen source.new) result }
+    ensures stops { result ≡ Err ReadFault → StopsWithin (unread ahead.old (S.seen source.old)) (S.seen source.new).told (len + padding_of len) }
 {
     let Ok(count) = ahead.read_most(source, &mut room[..len]) else {
         return Err(ReadRefusal::ReadFault);
@@ -113,6 +118,7 @@ pub(crate) fn read_entry<S: Source>(
     ensures short { IsShortEntry result }
     ensures at_end { EndsSource result (S.seen source.new).told }
     ensures cause { HasReadCause (S.seen source.old) (S.seen source.new) result }
+    ensures stops { result ≡ Err ReadFault → StopsInEntry (unread ahead.old (S.seen source.old)) (S.seen source.new).told }
 {
     let mut head = [0u8; 12];
     let Ok(count) = ahead.read_most(source, &mut head) else {
@@ -148,6 +154,7 @@ pub(crate) fn read_end<S: Source>(
     ensures none { IsNoEntry result }
     ensures at_end { EndsSource result (S.seen source.new).told }
     ensures cause { HasReadCause (S.seen source.old) (S.seen source.new) result }
+    ensures stops { result ≡ Err ReadFault → StopsInEntry (unread ahead.old (S.seen source.old)) (S.seen source.new).told }
 {
     let mut byte = [0u8; 1];
     match ahead.read_most(source, &mut byte) {
