@@ -1,4 +1,3 @@
-ghost use Rattle.sflow_io.specs.Causes.{HasCause};
 ghost use Rattle.text_lines.specs.Pages.{Prints};
 ghost use Rattle.collector_views.specs.Views.{source_shown};
 ghost use Rattle.report_lines.specs.Lines.{source_text, flow_text, counters_text};
@@ -10,9 +9,8 @@ use text_lines::{Page, Piece};
 /// Puts the line of a source. One of flow samples has the rise of the pool, the drops and the rate besides.
 /// `Failed` is the sink's own; then the sink has taken a prefix of what the page held and the line.
 pub fn put_source<K: Sink>(page: &mut Page, sink: &mut K, view: &SourceView) -> Result<(), Failed>
-    ensures prints { Prints (K.taken sink.old) (K.taken sink.new) page.old page.new result
+    ensures { Prints (K.seen sink.old) (K.seen sink.new) page.old page.new result
         (source_text (source_shown view.now)) }
-    ensures cause { HasCause (K.faults sink.old) (K.faults sink.new) result }
 {
     if view.flow {
         put_flow(page, sink, view)
@@ -23,9 +21,8 @@ pub fn put_source<K: Sink>(page: &mut Page, sink: &mut K, view: &SourceView) -> 
 
 #[tactic(auto, unfolding(crate::specs::Lines::flow_text))]
 fn put_flow<K: Sink>(page: &mut Page, sink: &mut K, view: &SourceView) -> Result<(), Failed>
-    ensures prints { Prints (K.taken sink.old) (K.taken sink.new) page.old page.new result
+    ensures { Prints (K.seen sink.old) (K.seen sink.new) page.old page.new result
         (flow_text (source_shown view.now)) }
-    ensures cause { HasCause (K.faults sink.old) (K.faults sink.new) result }
 {
     let ledger = &view.ledger;
     let pieces = [
@@ -60,9 +57,8 @@ fn put_flow<K: Sink>(page: &mut Page, sink: &mut K, view: &SourceView) -> Result
 
 #[tactic(auto, unfolding(crate::specs::Lines::counters_text))]
 fn put_counters<K: Sink>(page: &mut Page, sink: &mut K, view: &SourceView) -> Result<(), Failed>
-    ensures prints { Prints (K.taken sink.old) (K.taken sink.new) page.old page.new result
+    ensures { Prints (K.seen sink.old) (K.seen sink.new) page.old page.new result
         (counters_text (source_shown view.now)) }
-    ensures cause { HasCause (K.faults sink.old) (K.faults sink.new) result }
 {
     let ledger = &view.ledger;
     let pieces = [

@@ -1,4 +1,3 @@
-ghost use Rattle.sflow_io.specs.Causes.{HasCause};
 ghost use Rattle.text_lines.specs.Pages.{Prints};
 ghost use Rattle.collector_views.specs.Views.{stream_shown};
 ghost use Rattle.report_lines.specs.Lines.{stream_text};
@@ -16,9 +15,8 @@ pub fn put_stream<K: Sink>(
     number: u64,
     view: &StreamView,
 ) -> Result<(), Failed>
-    ensures prints { Prints (K.taken sink.old) (K.taken sink.new) page.old page.new result
+    ensures { Prints (K.seen sink.old) (K.seen sink.new) page.old page.new result
         (stream_text number (stream_shown view.now)) }
-    ensures cause { HasCause (K.faults sink.old) (K.faults sink.new) result }
 {
     let ledger = &view.ledger;
     let pieces = [

@@ -1,18 +1,18 @@
 -- What stands at the front of an entry, from what was read of it.
-use Rattle.std.proofs.Common.{◌≡◌, ℕ, ◌+◌, ◌<◌, ◌≤◌, true, false, nat_lt, List, [], ◌∷◌, ◌++◌, length, take, drop, Option, Some, None, refl, sym, ap, ◌∙◌, arith, take_at, lt-ltb, le-ltb, take-take}
+use Rattle.std.proofs.Common.{◌≡◌, ℕ, ◌+◌, ◌<◌, ◌≤◌, true, false, nat_lt, List, [], ◌∷◌, ◌++◌, length, take, drop, Some, None, refl, sym, ap, ◌∙◌, arith, take_at, lt-ltb, le-ltb, take-take}
 use lib.Seq.{take-append-le}
 use Rattle.std.proofs.lemmas.List.{drop-take}
 use Rattle.std.specs.Int.{w32, w64, from_be_bytes}
 use Rattle.wire_spec.specs.declared.input_kind.InputKind.TheVariants.{Cut, Long, Padding}
 use Rattle.wire_spec.specs.CaptureReading.{Stops, Holds, Breaks, first_nonzero, arrival_at, length_at, front_of, front_of_entry, front_of_body, front_of_padding}
 use Rattle.wire_spec.specs.Padding.{padding_of}
-use Rattle.sflow_io.specs.Streams.{Fills}
+use Rattle.sflow_io.specs.Seen.{Seen, Fills}
 use Rattle.sflow_io.proofs.Filled.{full_room, short_room, front_read}
 
 -- ---- the padding: `room` is for it, and stands before other bytes
 
-module _ (arrival len count : ℕ) (body bytes room more : List ℕ) (old new : Option (List ℕ))
-    (is : length body ≡ len) (long : length room ≡ padding_of len) (told : old ≡ Some bytes)
+module _ (arrival len count : ℕ) (body bytes room more : List ℕ) (old new : Seen)
+    (is : length body ≡ len) (long : length room ≡ padding_of len) (told : old.told ≡ Some bytes)
     (f : Fills old new count room) where
   searched : first_nonzero (take (padding_of len) bytes) ≡ first_nonzero (take count (room ++ more))
   searched =
@@ -36,7 +36,7 @@ module _ (arrival len count : ℕ) (body bytes room more : List ℕ) (old new : 
   pub padding_holds : None ≡ first_nonzero (take count (room ++ more)) → padding_of len ≤ count
       → (front_of_padding arrival body bytes
       ≡ Holds (record { arrival = arrival; bytes = body }) (drop (padding_of len) bytes))
-      × (new ≡ Some (drop (padding_of len) bytes))
+      × (new.told ≡ Some (drop (padding_of len) bytes))
   unfolding front_of_padding
   padding_holds none full =
       let h = full_room old new count room bytes told f (omega (arith, long)) in
@@ -46,8 +46,8 @@ module _ (arrival len count : ℕ) (body bytes room more : List ℕ) (old new : 
 
 -- ---- the bytes
 
-module _ (arrival len count : ℕ) (bytes room more : List ℕ) (old new : Option (List ℕ))
-    (long : length room ≡ len) (told : old ≡ Some bytes) (f : Fills old new count room) where
+module _ (arrival len count : ℕ) (bytes room more : List ℕ) (old new : Seen)
+    (long : length room ≡ len) (told : old.told ≡ Some bytes) (f : Fills old new count room) where
   pub body_cut : count < len → front_of_body arrival len bytes ≡ Breaks 0 Cut
   unfolding front_of_body
   body_cut short =
@@ -58,7 +58,7 @@ module _ (arrival len count : ℕ) (bytes room more : List ℕ) (old new : Optio
   pub body_goes_on : len ≤ count
       → (front_of_body arrival len bytes
       ≡ front_of_padding arrival (take len (room ++ more)) (drop len bytes))
-      × (new ≡ Some (drop len bytes))
+      × (new.told ≡ Some (drop len bytes))
   unfolding front_of_body
   body_goes_on full =
       let h = full_room old new count room bytes told f (omega (arith, long)) in
@@ -99,8 +99,8 @@ entry_goes_on bytes full fits =
     let short : nat_lt 65535 (length_at bytes) ≡ false = le-ltb _ _ fits in
     rw (enough, short) refl
 
-module _ (count : ℕ) (bytes room : List ℕ) (old new : Option (List ℕ)) (long : length room ≡ 12)
-    (told : old ≡ Some bytes) (f : Fills old new count room) where
+module _ (count : ℕ) (bytes room : List ℕ) (old new : Seen) (long : length room ≡ 12)
+    (told : old.told ≡ Some bytes) (f : Fills old new count room) where
   pub head_stops : count ≡ 0 → front_of bytes ≡ Stops
   head_stops none =
       let h = short_room old new count room bytes told f (omega (arith, long)) in
@@ -117,7 +117,7 @@ module _ (count : ℕ) (bytes room : List ℕ) (old new : Option (List ℕ)) (lo
     pub length_is : len ≡ length_at bytes
     pub some : 0 < length bytes
     pub enough : 12 ≤ length bytes
-    pub left_is : new ≡ Some (drop 12 bytes)
+    pub left_is : new.told ≡ Some (drop 12 bytes)
 
   pub head_read : (arrival len : ℕ) → 12 ≤ count → arrival ≡ from_be_bytes w64 (take 8 room)
       → len ≡ from_be_bytes w32 (take 4 (drop 8 room)) → IsHead arrival len

@@ -1,6 +1,6 @@
 -- What a reader of a capture answers, by what is left to read.
 use Rattle.std.specs.Prelude.{◌≡◌, ◌≢◌, ⊤, ℕ, ◌+◌, ◌*◌, ◌^◌, ◌<◌, ◌≤◌, List, [], ◌++◌, length, take, Option, Some, Result, Ok, Err}
-use Rattle.std.specs.Io.KnownBytes.{IsAtEnd, prepend_known}
+use Rattle.std.specs.Io.KnownBytes.{IsAtEnd}
 use Rattle.wire_spec.specs.Bytes.{BeginsWith}
 use Rattle.wire_spec.specs.Captures.{capture_header, CaptureFault}
 use Rattle.wire_spec.specs.CaptureReading.{Front, Stops, Holds, Breaks, front_of}
@@ -11,7 +11,7 @@ use Rattle.sflow_io.specs.declared.capture.ReadRefusal.{ReadRefusal}
 use Rattle.sflow_io.specs.declared.capture.ReadRefusal.TheVariants as refusal
 use Rattle.sflow_io.specs.declared.capture.Stage.{Stage}
 use Rattle.sflow_io.specs.declared.capture.Stage.TheVariants as stage
-use Rattle.sflow_io.specs.Causes.{Rose}
+use Rattle.sflow_io.specs.Seen.{Seen, next_count, with_held}
 
 abbrev pub Answer : Type 0
 Answer = Result Next ReadRefusal
@@ -21,9 +21,9 @@ pub record ReaderState : Type 0 where
   pub stage : Stage
   pub held : List ℕ
 
--- what is left to read, where the source tells it: what is held, and then what the source has left
-abbrev pub unread : ReaderState → Option (List ℕ) → Option (List ℕ)
-unread reader left = prepend_known reader.held left
+-- what is left to read, where the source tells it: the bytes that are held of it, and then what it has left
+abbrev pub unread : List ℕ → Seen → Option (List ℕ)
+unread held source = (with_held held source).told
 
 -- ---- the next stage
 
@@ -154,8 +154,7 @@ Answers stage.Start bytes room left answer = AnswersStart bytes room left answer
 Answers (stage.Within count offset) bytes room left answer = AnswersWithin count offset bytes room left answer
 Answers (stage.Ended last) bytes room left answer = (answer ≡ last) × (left ≡ Some bytes)
 
--- a read fault comes only where the source's count rose, and any other answer leaves the count as it was
-pub record HasReadCause {T : Type 0} (before now : ℕ) (answer : Result T ReadRefusal) : Type 0 where
-  pub later : before ≤ now
-  pub failed : answer ≡ Err refusal.ReadFault → Rose before now
-  pub kept : answer ≢ Err refusal.ReadFault → now ≡ before
+-- at a read fault one call of the source failed, and at any other answer none
+pub record HasReadCause {T : Type 0} (old new : Seen) (answer : Result T ReadRefusal) : Type 0 where
+  pub failed : answer ≡ Err refusal.ReadFault → new.faults ≡ next_count old.faults
+  pub kept : answer ≢ Err refusal.ReadFault → new.faults ≡ old.faults

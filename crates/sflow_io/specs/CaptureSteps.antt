@@ -7,7 +7,9 @@ use Rattle.sflow_io.specs.declared.capture.Next.TheVariants as next
 use Rattle.sflow_io.specs.declared.capture.ReadRefusal.TheVariants as refusal
 use Rattle.sflow_io.specs.declared.capture.Stage.{Stage}
 use Rattle.sflow_io.specs.declared.capture.Stage.TheVariants as stage
-use Rattle.sflow_io.specs.CaptureAnswers.{Answer}
+use Rattle.sflow_io.specs.Seen.{Seen}
+use Rattle.sflow_io.specs.CaptureAnswers.{Answer, ReaderState, unread}
+use Rattle.sflow_io.specs.ReadFaults.{StopsBehind}
 
 -- the entries so far, and that of an answer whose bytes are the first of the room
 abbrev pub with_answer : List Entry → List ℕ → Answer → List Entry
@@ -46,13 +48,13 @@ pub record GoesOn (entries : List Entry) (bytes : List ℕ) : Type 0 where
   pub number : length entries ≡ 2 ^ 48
   pub more : 0 < length rest
 
--- what the last answer says of the bytes, where these entries were given before it
-abbrev pub EndsAt : List Entry → List ℕ → Answer → Type 0
-EndsAt entries bytes (Ok (next.Entry at len)) = ⊥
-EndsAt entries bytes (Ok next.End) = IsAllOf entries bytes
-EndsAt entries bytes (Err (refusal.BadInput at kind)) = FaultBehind entries bytes at kind
-EndsAt entries bytes (Err refusal.Spent) = GoesOn entries bytes
-EndsAt entries bytes (Err refusal.ReadFault) = BeginsWithEntries bytes entries
+-- what the last answer says of the bytes, where these entries were given before it and the source has so much left
+abbrev pub EndsAt : List Entry → List ℕ → Option (List ℕ) → Answer → Type 0
+EndsAt entries bytes left (Ok (next.Entry at len)) = ⊥
+EndsAt entries bytes left (Ok next.End) = IsAllOf entries bytes
+EndsAt entries bytes left (Err (refusal.BadInput at kind)) = FaultBehind entries bytes at kind
+EndsAt entries bytes left (Err refusal.Spent) = GoesOn entries bytes
+EndsAt entries bytes left (Err refusal.ReadFault) = StopsBehind entries bytes left
 
 -- the bytes begin with these entries, so many to this offset, and the others are left
 pub record IsBehind (entries : List Entry) (bytes : List ℕ) (count offset : ℕ) (left : Option (List ℕ)) : Type 0 where
@@ -63,8 +65,13 @@ pub record IsBehind (entries : List Entry) (bytes : List ℕ) (count offset : �
   pub offset_is : offset ≡ length (capture_bytes entries)
   pub few : count ≤ 2 ^ 48
 
--- of these bytes a reader that stands here has given these entries
-abbrev pub HasGiven : List ℕ → List Entry → Stage → Option (List ℕ) → Type 0
-HasGiven bytes entries stage.Start left = (entries ≡ []) × (left ≡ Some bytes)
-HasGiven bytes entries (stage.Within count offset) left = IsBehind entries bytes count offset left
-HasGiven bytes entries (stage.Ended last) left = EndsAt entries bytes last
+-- of these bytes a reader that stands here has given these entries: `more` is unread, and the source has `left` of it
+abbrev pub HasGivenAt : List ℕ → List Entry → Stage → Option (List ℕ) → Option (List ℕ) → Type 0
+HasGivenAt bytes entries stage.Start more left = (entries ≡ []) × (more ≡ Some bytes)
+HasGivenAt bytes entries (stage.Within count offset) more left = IsBehind entries bytes count offset more
+HasGivenAt bytes entries (stage.Ended last) more left = EndsAt entries bytes left last
+
+-- of these bytes the reader has given these entries, where the source shows this
+abbrev pub HasGiven : List ℕ → List Entry → ReaderState → Seen → Type 0
+HasGiven bytes entries reader source =
+    HasGivenAt bytes entries reader.stage (unread reader.held source) source.told

@@ -1,6 +1,6 @@
 -- What the sources and sinks over memory hold, and what each call makes of it.
-use Rattle.std.specs.Prelude.{ℕ, ◌-◌, ◌≤◌, ◌<◌, ◌⊎◌, List, ◌++◌, length, take, drop, min, Contains}
-use Rattle.sflow_io.specs.Causes.{next_count}
+use Rattle.std.specs.Prelude.{ℕ, ◌-◌, ◌≤◌, ◌<◌, ◌⊎◌, List, ◌++◌, length, take, drop, min, Contains, Some}
+use Rattle.sflow_io.specs.Seen.{Seen, next_count}
 
 -- a source: the bytes that are left, the most that a read moves, the numbers of the calls that fail, and the
 -- counts of its calls and of its faults
@@ -10,6 +10,10 @@ pub record SourceState : Type 0 where
   pub fails : List ℕ
   pub calls : ℕ
   pub faults : ℕ
+
+-- it tells the bytes that are left
+abbrev pub source_seen : SourceState → Seen
+source_seen s = record { told = Some s.left; faults = s.faults }
 
 -- how many bytes a read into this room moves
 abbrev pub moved_count : SourceState → List ℕ → ℕ
@@ -32,6 +36,10 @@ pub record SinkState : Type 0 where
   pub calls : ℕ
   pub faults : ℕ
   pub lacked : ℕ
+
+-- it tells the bytes that it took
+abbrev pub sink_seen : SinkState → Seen
+sink_seen s = record { told = Some s.taken; faults = s.faults }
 
 -- how many bytes of this piece still fit
 abbrev pub fitting_count : SinkState → List ℕ → ℕ

@@ -1,6 +1,9 @@
-ghost use Rattle.std.specs.Prelude.{◌≡◌, ℕ, List, Some};
-ghost use Rattle.std.specs.Io.KnownBytes.{prepend_known};
-ghost use Rattle.sflow_io.specs.CaptureAnswers.{HasReadCause, ReadsHeader};
+ghost use Rattle.std.specs.Prelude.{◌≡◌, ℕ, List, Some, Err, OnOk};
+ghost use Rattle.std.specs.Io.KnownBytes.{Consumes};
+ghost use Rattle.wire_spec.specs.Captures.{capture_header};
+ghost use Rattle.sflow_io.specs.declared.capture.ReadRefusal.TheVariants.{ReadFault};
+ghost use Rattle.sflow_io.specs.ReadFaults.{StopsWithin};
+ghost use Rattle.sflow_io.specs.CaptureAnswers.{HasReadCause, ReadsHeader, unread};
 
 use crate::read_ahead::ReadAhead;
 use crate::{InputKind, ReadRefusal, Source};
@@ -16,9 +19,11 @@ pub(crate) fn read_header<S: Source>(
     ahead: &mut ReadAhead,
     source: &mut S,
 ) -> Result<(), ReadRefusal>
-    ensures told { (bytes : List ℕ) → prepend_known ahead.old (S.left source.old) ≡ Some bytes
-        → ReadsHeader bytes (prepend_known ahead.new (S.left source.new)) result }
-    ensures cause { HasReadCause (S.faults source.old) (S.faults source.new) result }
+    ensures told { (bytes : List ℕ) → unread ahead.old (S.seen source.old) ≡ Some bytes
+        → ReadsHeader bytes (unread ahead.new (S.seen source.new)) result }
+    ensures cause { HasReadCause (S.seen source.old) (S.seen source.new) result }
+    ensures stops { result ≡ Err ReadFault → StopsWithin (unread ahead.old (S.seen source.old)) (S.seen source.new).told 8 }
+    ensures header { OnOk result (Consumes (unread ahead.old (S.seen source.old)) (unread ahead.new (S.seen source.new)) (capture_header 1)) }
 {
     let mut room = [0u8; 8];
     let Ok(count) = ahead.read_most(source, &mut room) else {

@@ -1,8 +1,10 @@
-ghost use Rattle.std.specs.Prelude.{◌≡◌, ◌≤◌, [], ℕ, List, Option, Some, length, IfOk};
-ghost use Rattle.std.specs.Io.KnownBytes.{prepend_known};
+ghost use Rattle.std.specs.Prelude.{◌≡◌, ◌≤◌, [], ℕ, List, Some, Err, length, IfOk};
+ghost use Rattle.sflow_io.specs.declared.capture.ReadRefusal.TheVariants.{ReadFault};
 ghost use Rattle.sflow_io.specs.declared.capture.Stage.TheVariants.{Start, Ended};
 ghost use Rattle.wire_spec.specs.Bytes.{AreBytes};
 ghost use Rattle.wire_spec.specs.Captures.{Entry};
+ghost use Rattle.sflow_io.specs.Seen.{Seen};
+ghost use Rattle.sflow_io.specs.ReadFaults.{StopsAfter};
 ghost use Rattle.sflow_io.specs.CaptureSteps.{HasGiven, with_answer};
 ghost use Rattle.sflow_io.specs.CaptureAnswers.{Answer, Answers, AnswersStart, EndsSource, HasEnded, HasReadCause, LeadsOn, IsPlaced, IsShortEntry, KeepsLimits, ReaderState, length_with_padding, stage_after, unread};
 
@@ -39,8 +41,8 @@ impl CaptureReader {
         ensures opened { IfOk result (λ reader. reader ≡ record { stage = Start; held = [] }) }
 
         // It has given nothing of any bytes.
-        ensures begins { IfOk result (λ reader. (bytes : List ℕ) (left : Option (List ℕ)) → left ≡ Some bytes
-            → HasGiven bytes [] reader.stage (unread reader left)) }
+        ensures begins { IfOk result (λ reader. (bytes : List ℕ) (source : Seen) → source.told ≡ Some bytes
+            → HasGiven bytes [] reader source) }
     {
         match ReadAhead::new(alloc) {
             Ok(ahead) => Ok(CaptureReader {
@@ -63,11 +65,11 @@ impl CaptureReader {
         requires { 65535 ≤ length room.old }
 
         // The answer is that of the bytes that are left, whatever the pieces in which they come.
-        ensures told { (bytes : List ℕ) → unread self.old (S.left source.old) ≡ Some bytes
-            → Answers self.old.stage bytes room.new (unread self.new (S.left source.new)) result }
+        ensures told { (bytes : List ℕ) → unread self.old.held (S.seen source.old) ≡ Some bytes
+            → Answers self.old.stage bytes room.new (unread self.new.held (S.seen source.new)) result }
         ensures stage { self.new.stage ≡ stage_after self.old.stage result }
         ensures length { IsShortEntry result }
-        ensures at_end { ¬ (HasEnded self.old.stage) → EndsSource result (S.left source.new) }
+        ensures at_end { ¬ (HasEnded self.old.stage) → EndsSource result (S.seen source.new).told }
         ensures leads_on { LeadsOn self.old.stage self.new.stage result }
 
         // The last answer comes again.
@@ -75,13 +77,13 @@ impl CaptureReader {
         ensures unmoved { HasEnded self.old.stage
             → (self.new ≡ self.old) × (source.new ≡ source.old) × (room.new ≡ room.old) }
         ensures cause { ¬ (HasEnded self.old.stage)
-            → HasReadCause (S.faults source.old) (S.faults source.new) result }
+            → HasReadCause (S.seen source.old) (S.seen source.new) result }
 
-        // What was given from the start of the input on stays what a capture's reading gives.
+        // What was given from the start of the input on stays what a capture's reading gives. At a read fault no
+        // whole entry has left the source that wasn't given.
         ensures given { (bytes : List ℕ) (entries : List Entry) → AreBytes bytes
-            → HasGiven bytes entries self.old.stage (unread self.old (S.left source.old))
-            → HasGiven bytes (with_answer entries room.new result) self.new.stage
-            (unread self.new (S.left source.new)) }
+            → HasGiven bytes entries self.old (S.seen source.old)
+            → HasGiven bytes (with_answer entries room.new result) self.new (S.seen source.new) }
     {
         let answer = read_from(self.stage, &mut self.ahead, source, room);
         self.stage = stage_behind(self.stage, answer);
@@ -98,14 +100,16 @@ fn read_from<S: Source>(
 ) -> Result<Next, ReadRefusal>
     requires room { 65535 ≤ length room.old }
     requires placed { IsPlaced stage }
-    ensures told { (bytes : List ℕ) → prepend_known ahead.old (S.left source.old) ≡ Some bytes
-        → Answers stage bytes room.new (prepend_known ahead.new (S.left source.new)) result }
+    ensures told { (bytes : List ℕ) → unread ahead.old (S.seen source.old) ≡ Some bytes
+        → Answers stage bytes room.new (unread ahead.new (S.seen source.new)) result }
     ensures limits { KeepsLimits stage result }
-    ensures at_end { ¬ (HasEnded stage) → EndsSource result (S.left source.new) }
+    ensures at_end { ¬ (HasEnded stage) → EndsSource result (S.seen source.new).told }
     ensures again { (last : Answer) → stage ≡ Ended last → result ≡ last }
     ensures unmoved { HasEnded stage
         → (ahead.new ≡ ahead.old) × (source.new ≡ source.old) × (room.new ≡ room.old) }
-    ensures cause { ¬ (HasEnded stage) → HasReadCause (S.faults source.old) (S.faults source.new) result }
+    ensures cause { ¬ (HasEnded stage) → HasReadCause (S.seen source.old) (S.seen source.new) result }
+    ensures stops { result ≡ Err ReadFault
+        → StopsAfter stage (unread ahead.old (S.seen source.old)) (S.seen source.new).told }
 {
     match stage {
         Stage::Start => read_first(ahead, source, room),
@@ -127,11 +131,12 @@ fn read_first<S: Source>(
     room: &mut [u8],
 ) -> Result<Next, ReadRefusal>
     requires { 65535 ≤ length room.old }
-    ensures told { (bytes : List ℕ) → prepend_known ahead.old (S.left source.old) ≡ Some bytes
-        → AnswersStart bytes room.new (prepend_known ahead.new (S.left source.new)) result }
+    ensures told { (bytes : List ℕ) → unread ahead.old (S.seen source.old) ≡ Some bytes
+        → AnswersStart bytes room.new (unread ahead.new (S.seen source.new)) result }
     ensures short { IsShortEntry result }
-    ensures at_end { EndsSource result (S.left source.new) }
-    ensures cause { HasReadCause (S.faults source.old) (S.faults source.new) result }
+    ensures at_end { EndsSource result (S.seen source.new).told }
+    ensures cause { HasReadCause (S.seen source.old) (S.seen source.new) result }
+    ensures stops { result ≡ Err ReadFault → StopsAfter Start (unread ahead.old (S.seen source.old)) (S.seen source.new).told }
 {
     if let Err(refusal) = read_header(ahead, source) {
         return Err(refusal);

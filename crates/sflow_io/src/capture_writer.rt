@@ -1,7 +1,6 @@
 ghost use Rattle.std.specs.Prelude.{◌≡◌, ◌<◌, ◌≤◌, ◌^◌, length};
 ghost use Rattle.wire_spec.specs.Captures.{capture_header, entry_bytes, entry_head};
-ghost use Rattle.sflow_io.specs.Causes.{HasCause};
-ghost use Rattle.sflow_io.specs.Streams.{WritesAll};
+ghost use Rattle.sflow_io.specs.Seen.{WritesAll};
 
 use crate::capture_header::HEADER;
 use crate::{Failed, Sink, WriteFault, write_all};
@@ -19,8 +18,7 @@ impl CaptureWriter {
     /// Writes the first 8 bytes of a capture: the magic, and the version 1.
     /// `WriteFault` comes only where a write of the sink failed.
     pub fn begin<K: Sink>(sink: &mut K) -> Result<CaptureWriter, WriteFault>
-        ensures writes { WritesAll (K.taken sink.old) (K.taken sink.new) result (capture_header 1) }
-        ensures cause { HasCause (K.faults sink.old) (K.faults sink.new) result }
+        ensures { WritesAll (K.seen sink.old) (K.seen sink.new) result (capture_header 1) }
     {
         match write_all(sink, HEADER.as_slice()) {
             Ok(()) => Ok(CaptureWriter { _begun: () }),
@@ -32,9 +30,8 @@ impl CaptureWriter {
     /// `WriteFault` comes only where a write of the sink failed.
     pub fn entry<K: Sink>(&mut self, sink: &mut K, at: u64, bytes: &[u8]) -> Result<(), WriteFault>
         requires { length bytes.now ≤ 65535 }
-        ensures writes { WritesAll (K.taken sink.old) (K.taken sink.new) result
+        ensures { WritesAll (K.seen sink.old) (K.seen sink.new) result
             (entry_bytes (record { arrival = at; bytes = bytes.now })) }
-        ensures cause { HasCause (K.faults sink.old) (K.faults sink.new) result }
     {
         match write_entry(sink, at, bytes) {
             Ok(()) => Ok(()),
@@ -56,9 +53,8 @@ fn head_of(at: u64, len: u32) -> [u8; 12]
 // An entry, byte by byte.
 fn write_entry<K: Sink>(sink: &mut K, at: u64, bytes: &[u8]) -> Result<(), Failed>
     requires { length bytes.now ≤ 65535 }
-    ensures writes { WritesAll (K.taken sink.old) (K.taken sink.new) result
+    ensures { WritesAll (K.seen sink.old) (K.seen sink.new) result
         (entry_bytes (record { arrival = at; bytes = bytes.now })) }
-    ensures cause { HasCause (K.faults sink.old) (K.faults sink.new) result }
 {
     write_all(sink, head_of(at, bytes.len() as u32).as_slice())?;
     write_all(sink, bytes)?;

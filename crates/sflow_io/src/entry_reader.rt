@@ -1,9 +1,11 @@
 // The parts of a capture, each read from its first byte on.
-ghost use Rattle.std.specs.Prelude.{◌≡◌, ◌+◌, ◌^◌, ◌<◌, ◌≤◌, ℕ, List, Some, length, take, drop};
+ghost use Rattle.std.specs.Prelude.{◌≡◌, ◌+◌, ◌^◌, ◌<◌, ◌≤◌, ℕ, List, Some, Err, length, take, drop};
 ghost use Rattle.std.specs.Int.{w32, w64, from_be_bytes};
-ghost use Rattle.std.specs.Io.KnownBytes.{prepend_known};
+ghost use Rattle.wire_spec.specs.Padding.{padding_of};
 ghost use Rattle.wire_spec.specs.CaptureReading.{first_nonzero, front_of, front_of_body, front_of_padding};
-ghost use Rattle.sflow_io.specs.CaptureAnswers.{AnswersFront, AnswersLast, EndsSource, HasReadCause, IsNoEntry, IsShortEntry};
+ghost use Rattle.sflow_io.specs.declared.capture.ReadRefusal.TheVariants.{ReadFault};
+ghost use Rattle.sflow_io.specs.ReadFaults.{StopsInEntry, StopsWithin};
+ghost use Rattle.sflow_io.specs.CaptureAnswers.{AnswersFront, AnswersLast, EndsSource, HasReadCause, IsNoEntry, IsShortEntry, unread};
 
 use crate::read_ahead::ReadAhead;
 use crate::{InputKind, Next, ReadRefusal, Source};
@@ -41,12 +43,13 @@ fn read_padding<S: Source>(
     requires length { len ≤ 65535 }
     requires room { len ≤ length room.now }
     requires offset { offset < 2 ^ 127 }
-    ensures told { (bytes : List ℕ) → prepend_known ahead.old (S.left source.old) ≡ Some bytes
+    ensures told { (bytes : List ℕ) → unread ahead.old (S.seen source.old) ≡ Some bytes
         → AnswersFront offset (front_of_padding at (take len room.now) bytes) room.now
-        (prepend_known ahead.new (S.left source.new)) result }
+        (unread ahead.new (S.seen source.new)) result }
     ensures short { IsShortEntry result }
-    ensures at_end { EndsSource result (S.left source.new) }
-    ensures cause { HasReadCause (S.faults source.old) (S.faults source.new) result }
+    ensures at_end { EndsSource result (S.seen source.new).told }
+    ensures cause { HasReadCause (S.seen source.old) (S.seen source.new) result }
+    ensures stops { result ≡ Err ReadFault → StopsWithin (unread ahead.old (S.seen source.old)) (S.seen source.new).told (padding_of len) }
 {
     let most = (4 - len % 4) % 4;
     let mut padding = [0u8; 4];
@@ -81,12 +84,13 @@ fn read_body<S: Source>(
     requires length { len ≤ 65535 }
     requires room { len ≤ length room.old }
     requires offset { offset < 2 ^ 127 }
-    ensures told { (bytes : List ℕ) → prepend_known ahead.old (S.left source.old) ≡ Some bytes
+    ensures told { (bytes : List ℕ) → unread ahead.old (S.seen source.old) ≡ Some bytes
         → AnswersFront offset (front_of_body at len bytes) room.new
-        (prepend_known ahead.new (S.left source.new)) result }
+        (unread ahead.new (S.seen source.new)) result }
     ensures short { IsShortEntry result }
-    ensures at_end { EndsSource result (S.left source.new) }
-    ensures cause { HasReadCause (S.faults source.old) (S.faults source.new) result }
+    ensures at_end { EndsSource result (S.seen source.new).told }
+    ensures cause { HasReadCause (S.seen source.old) (S.seen source.new) result }
+    ensures stops { result ≡ Err ReadFault → StopsWithin (unread ahead.old (S.seen source.old)) (S.seen source.new).told (len + padding_of len) }
 {
     let Ok(count) = ahead.read_most(source, &mut room[..len]) else {
         return Err(ReadRefusal::ReadFault);
@@ -109,11 +113,12 @@ pub(crate) fn read_entry<S: Source>(
 ) -> Result<Next, ReadRefusal>
     requires room { 65535 ≤ length room.old }
     requires offset { offset < 2 ^ 127 }
-    ensures told { (bytes : List ℕ) → prepend_known ahead.old (S.left source.old) ≡ Some bytes
-        → AnswersFront offset (front_of bytes) room.new (prepend_known ahead.new (S.left source.new)) result }
+    ensures told { (bytes : List ℕ) → unread ahead.old (S.seen source.old) ≡ Some bytes
+        → AnswersFront offset (front_of bytes) room.new (unread ahead.new (S.seen source.new)) result }
     ensures short { IsShortEntry result }
-    ensures at_end { EndsSource result (S.left source.new) }
-    ensures cause { HasReadCause (S.faults source.old) (S.faults source.new) result }
+    ensures at_end { EndsSource result (S.seen source.new).told }
+    ensures cause { HasReadCause (S.seen source.old) (S.seen source.new) result }
+    ensures stops { result ≡ Err ReadFault → StopsInEntry (unread ahead.old (S.seen source.old)) (S.seen source.new).told }
 {
     let mut head = [0u8; 12];
     let Ok(count) = ahead.read_most(source, &mut head) else {
@@ -144,11 +149,12 @@ pub(crate) fn read_end<S: Source>(
     ahead: &mut ReadAhead,
     source: &mut S,
 ) -> Result<Next, ReadRefusal>
-    ensures told { (bytes : List ℕ) → prepend_known ahead.old (S.left source.old) ≡ Some bytes
+    ensures told { (bytes : List ℕ) → unread ahead.old (S.seen source.old) ≡ Some bytes
         → AnswersLast bytes result }
     ensures none { IsNoEntry result }
-    ensures at_end { EndsSource result (S.left source.new) }
-    ensures cause { HasReadCause (S.faults source.old) (S.faults source.new) result }
+    ensures at_end { EndsSource result (S.seen source.new).told }
+    ensures cause { HasReadCause (S.seen source.old) (S.seen source.new) result }
+    ensures stops { result ≡ Err ReadFault → StopsInEntry (unread ahead.old (S.seen source.old)) (S.seen source.new).told }
 {
     let mut byte = [0u8; 1];
     match ahead.read_most(source, &mut byte) {

@@ -13,16 +13,14 @@ pub struct InputSource<R: Input + Drop> {
 impl<R: Input + Drop> InputSource<R> {
     /// The input of the runtime that `main` is given.
     pub fn new(rt: R) -> InputSource<R>
-        ensures faults { ⟦<InputSource<R> as Source>⟧.faults result ≡ 0 }
+        ensures { ⟦<InputSource<R> as Source>⟧.seen result ≡ record { told = None; faults = 0 } }
     {
         InputSource { rt, faults: 0 }
     }
 }
 
 impl<R: Input + Drop> Source for InputSource<R> {
-    ghost left = { λ _. None };
-
-    ghost faults = { λ s. s.faults };
+    ghost seen = { λ s. record { told = None; faults = s.faults } };
 
     fn read(&mut self, room: &mut [u8]) -> Result<usize, Failed> {
         match read_again(&mut self.rt.reader(), room) {

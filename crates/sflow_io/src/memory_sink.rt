@@ -1,8 +1,7 @@
-ghost use Rattle.std.specs.Prelude.{◌≡◌, ◌≤◌, ◌<◌, ◌⊎◌, [], ℕ, List, length, IsErr, IfOk, OnOk, OnErr, Some};
+ghost use Rattle.std.specs.Prelude.{◌≡◌, ◌≤◌, ◌<◌, ◌⊎◌, [], ℕ, List, length, IsErr, IfOk, OnOk, OnErr};
 ghost use Rattle.std.specs.Io.{WritesAtMost};
-ghost use Rattle.std.specs.Io.KnownBytes.{WriteAppends};
-ghost use Rattle.sflow_io.specs.Causes.{HasCause};
-ghost use Rattle.sflow_io.specs.Memory.{IsRefused, fitting_count, sink_written, sink_failed, sink_lacked};
+ghost use Rattle.sflow_io.specs.Seen.{WritesOnce};
+ghost use Rattle.sflow_io.specs.Memory.{IsRefused, fitting_count, sink_seen, sink_written, sink_failed, sink_lacked};
 
 use crate::{Failed, Sink};
 use std::alloc::Global;
@@ -75,16 +74,12 @@ impl MemorySink {
 }
 
 impl Sink for MemorySink {
-    ghost taken = { λ s. Some s.taken };
-
-    ghost faults = { λ s. s.faults };
+    ghost seen = { sink_seen };
 
     fn write(&mut self, bytes: &[u8]) -> Result<usize, Failed>
         ensures bound { WritesAtMost result bytes.now }
-        ensures bytes { WriteAppends (Some self.old.taken) (Some self.new.taken) result bytes.now }
         ensures some { 0 < length bytes.now → IfOk result (λ n. 0 < n) }
-        ensures kept { OnErr result (Some self.new.taken ≡ Some self.old.taken) }
-        ensures cause { HasCause self.old.faults self.new.faults result }
+        ensures writes { WritesOnce (sink_seen self.old) (sink_seen self.new) result bytes.now }
 
         // It takes what fits.
         ensures count { IfOk result (λ n. n ≡ fitting_count self.old bytes.now) }

@@ -1,8 +1,7 @@
-ghost use Rattle.std.specs.Prelude.{◌≡◌, ◌≤◌, ◌<◌, ◌↔◌, ℕ, List, length, Contains, IsErr, IfOk, OnErr, MatchResult, Some};
+ghost use Rattle.std.specs.Prelude.{◌≡◌, ◌≤◌, ◌<◌, ◌↔◌, ℕ, List, length, Contains, IsErr, IfOk, MatchResult};
 ghost use Rattle.std.specs.Io.{ReadsAtMost};
-ghost use Rattle.std.specs.Io.KnownBytes.{ReadConsumes};
-ghost use Rattle.sflow_io.specs.Causes.{HasCause, next_count};
-ghost use Rattle.sflow_io.specs.Memory.{moved_count, source_read, source_failed};
+ghost use Rattle.sflow_io.specs.Seen.{ReadsOnce, next_count};
+ghost use Rattle.sflow_io.specs.Memory.{moved_count, source_seen, source_read, source_failed};
 
 use crate::{Failed, Source};
 use std::marker::Model;
@@ -59,15 +58,11 @@ impl MemorySource {
 }
 
 impl Source for MemorySource {
-    ghost left = { λ s. Some s.left };
-
-    ghost faults = { λ s. s.faults };
+    ghost seen = { source_seen };
 
     fn read(&mut self, room: &mut [u8]) -> Result<usize, Failed>
         ensures bound { ReadsAtMost result room.new }
-        ensures bytes { ReadConsumes (Some self.old.left) (Some self.new.left) result room.new }
-        ensures kept { OnErr result (Some self.new.left ≡ Some self.old.left) }
-        ensures cause { HasCause self.old.faults self.new.faults result }
+        ensures reads { ReadsOnce (source_seen self.old) (source_seen self.new) result room.new }
 
         // It fails exactly where its number is one of those that fail.
         ensures fails { IsErr result ↔ Contains self.old.fails (next_count self.old.calls) }

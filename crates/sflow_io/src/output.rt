@@ -14,16 +14,14 @@ pub struct OutputSink<R: Print + Drop> {
 impl<R: Print + Drop> OutputSink<R> {
     /// The output of the runtime that `main` is given.
     pub fn new(rt: R) -> OutputSink<R>
-        ensures faults { ⟦<OutputSink<R> as Sink>⟧.faults result ≡ 0 }
+        ensures { ⟦<OutputSink<R> as Sink>⟧.seen result ≡ record { told = None; faults = 0 } }
     {
         OutputSink { rt, faults: 0 }
     }
 }
 
 impl<R: Print + Drop> Sink for OutputSink<R> {
-    ghost taken = { λ _. None };
-
-    ghost faults = { λ s. s.faults };
+    ghost seen = { λ s. record { told = None; faults = s.faults } };
 
     // A write that takes nothing of a piece is a failure.
     fn write(&mut self, bytes: &[u8]) -> Result<usize, Failed> {

@@ -1,8 +1,7 @@
-ghost use Rattle.std.specs.Prelude.{◌≡◌, ◌≤◌, ◌<◌, [], ◌++◌, length, take, IfOk, OnOk, vec_len};
+ghost use Rattle.std.specs.Prelude.{◌≡◌, ◌≤◌, ◌<◌, [], ◌++◌, length, take, IfOk, OnOk, OnErr, vec_len};
 ghost use Rattle.std.specs.Io.{ReadsAtMost};
-ghost use Rattle.std.specs.Io.KnownBytes.{IsAtEnd, Keeps, ReadConsumes, prepend_known};
-ghost use Rattle.sflow_io.specs.Causes.{HasCause};
-ghost use Rattle.sflow_io.specs.Streams.{ReadsMost};
+ghost use Rattle.std.specs.Io.KnownBytes.{IsAtEnd};
+ghost use Rattle.sflow_io.specs.Seen.{Gives, ReadsOnce, ReadsMost, failed, with_held};
 
 use crate::{Failed, Source};
 use std::alloc::{AllocError, Global};
@@ -50,10 +49,9 @@ impl ReadAhead {
 
     // Reads the source where nothing is held.
     fn hold<S: Source>(&mut self, source: &mut S) -> Result<(), Failed>
-        ensures bytes { Keeps (prepend_known self.old (S.left source.old))
-            (prepend_known self.new (S.left source.new)) }
-        ensures end { OnOk result (self.new ≡ [] → IsAtEnd (S.left source.new)) }
-        ensures cause { HasCause (S.faults source.old) (S.faults source.new) result }
+        ensures stands { OnOk result (Gives (with_held self.old (S.seen source.old)) (with_held self.new (S.seen source.new)) []) }
+        ensures end { OnOk result (self.new ≡ [] → IsAtEnd (S.seen source.new).told) }
+        ensures fails { OnErr result ((self.old ≡ []) × (self.new ≡ []) × (S.seen source.new ≡ failed (S.seen source.old))) }
     {
         if self.from < self.to {
             return Ok(());
@@ -80,9 +78,9 @@ impl ReadAhead {
     // Reads the bytes that are held, and then those of the source.
     fn read<S: Source>(&mut self, source: &mut S, room: &mut [u8]) -> Result<usize, Failed>
         ensures bound { ReadsAtMost result room.new }
-        ensures bytes { ReadConsumes (prepend_known self.old (S.left source.old))
-            (prepend_known self.new (S.left source.new)) result room.new }
-        ensures cause { HasCause (S.faults source.old) (S.faults source.new) result }
+        ensures reads { ReadsOnce (with_held self.old (S.seen source.old)) (with_held self.new (S.seen source.new))
+            result room.new }
+        ensures none { OnErr result (self.new ≡ []) }
     {
         self.hold(source)?;
         Ok(self.give(room))
@@ -94,9 +92,9 @@ impl ReadAhead {
         source: &mut S,
         room: &mut [u8],
     ) -> Result<usize, Failed>
-        ensures reads { ReadsMost (prepend_known self.old (S.left source.old))
-            (prepend_known self.new (S.left source.new)) result room.new }
-        ensures cause { HasCause (S.faults source.old) (S.faults source.new) result }
+        ensures reads { ReadsMost (with_held self.old (S.seen source.old)) (with_held self.new (S.seen source.new))
+            result room.new }
+        ensures none { OnErr result (self.new ≡ []) }
     {
         let mut filled = 0;
         while filled < room.len() {

@@ -1,7 +1,7 @@
 -- Texts of frames, segments or words that are put one after the other.
-use Rattle.std.proofs.Common.{◌≡◌, ℕ, List, [], ◌∷◌, ◌++◌, Option, Result, IsErrAnd, refl, sym, ap, subst, ◌∙◌, append_assoc, append-nil}
+use Rattle.std.proofs.Common.{◌≡◌, ℕ, List, [], ◌∷◌, ◌++◌, Result, IsErrAnd, refl, sym, ap, subst, ◌∙◌, append_assoc, append-nil}
 use Rattle.wire_spec.specs.Shapes.{Tree}
-use Rattle.sflow_io.specs.Streams.{AppendsPrefix}
+use Rattle.sflow_io.specs.Seen.{Seen, TakesPart}
 use Rattle.data_format.specs.Trees.{trees_of}
 use Rattle.text_lines.specs.Pages.{Puts, Prints}
 use Rattle.text_lines.proofs.PageLaws.{puts_none, puts_both, puts_fails, prints_err}
@@ -13,17 +13,17 @@ shown text view all = texts_of text (trees_of view all)
 
 -- these are left of all, and the texts of the others were put
 pub record SoFar {A : Type 0} (text : Tree → List ℕ) (view : A → Tree) (all left : List A)
-    (a b : Option (List ℕ)) (p q : List ℕ) : Type 0 where
+    (a b : Seen) (p q : List ℕ) : Type 0 where
   pub done : List ℕ
   pub whole : shown text view all ≡ done ++ shown text view left
   pub put : Puts a b p q done
 
-pub nothing_yet : {A : Type 0} (text : Tree → List ℕ) (view : A → Tree) (all : List A) (a : Option (List ℕ))
+pub nothing_yet : {A : Type 0} (text : Tree → List ℕ) (view : A → Tree) (all : List A) (a : Seen)
     (p : List ℕ) → SoFar text view all all a a p p
 nothing_yet text view all a p = record { done = []; whole = refl; put = puts_none a p }
 
 module _ {A : Type 0} (text : Tree → List ℕ) (view : A → Tree) (all left : List A)
-    (a b : Option (List ℕ)) (p q : List ℕ) (far : SoFar text view all left a b p q) where
+    (a b : Seen) (p q : List ℕ) (far : SoFar text view all left a b p q) where
   -- none is left
   pub all_put : left ≡ [] → Puts a b p q (shown text view all)
   all_put none =
@@ -31,7 +31,7 @@ module _ {A : Type 0} (text : Tree → List ℕ) (view : A → Tree) (all left :
       sym (far.whole ∙ ap (λ l. far.done ++ shown text view l) none ∙ append-nil far.done) in
       subst (Puts a b p q) whole far.put
 
-  module _ (f : A) (rest : List A) (line : List ℕ) (c : Option (List ℕ)) (n : List ℕ)
+  module _ (f : A) (rest : List A) (line : List ℕ) (c : Seen) (n : List ℕ)
       (next : left ≡ f ∷ rest) (same : line ≡ text (view f)) where
     split : shown text view all ≡ far.done ++ (line ++ shown text view rest)
     split = far.whole ∙ ap (λ l. far.done ++ shown text view l) next
@@ -46,7 +46,7 @@ module _ {A : Type 0} (text : Tree → List ℕ) (view : A → Tree) (all left :
     }
 
     -- it doesn't go out
-    pub one_fails : {T E : Type 0} (Q : E → Type 0) (r : Result T E) → IsErrAnd r Q → AppendsPrefix b c (q ++ line)
+    pub one_fails : {T E : Type 0} (Q : E → Type 0) (r : Result T E) → IsErrAnd r Q → TakesPart b c (q ++ line)
         → Prints a c p n r (shown text view all)
     one_fails Q r failed part =
         prints_err Q r a c p n (shown text view all) failed

@@ -7,8 +7,7 @@ pub mod Shown
 pub mod Worked
 pub mod WorkedRecords
 pub use Rattle.datagram_views.specs.Tables
-pub use Rattle.sflow_io.specs.Causes
-pub use Rattle.sflow_io.specs.Streams
+pub use Rattle.sflow_io.specs.Seen
 pub use Rattle.text_lines.specs.Pages
 pub use Rattle.wire_spec.specs.Captures
 pub use Rattle.wire_spec.specs.RecordExamples

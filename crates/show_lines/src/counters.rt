@@ -1,7 +1,6 @@
 // The lines of counter records, up to the tail: their fields in the order of the wire.
 ghost use Rattle.std.specs.Prelude.{◌++◌, codes, decimal, flat_map};
 ghost use Rattle.rec_counters.specs.Contents.{interface_content, ethernet_content, vlan_content};
-ghost use Rattle.sflow_io.specs.Causes.{HasCause};
 ghost use Rattle.text_lines.specs.Pages.{Prints};
 ghost use Rattle.show_lines.specs.CounterLines.{interface_front, dot3_front, vlan_front};
 ghost use Rattle.show_lines.specs.Fields.{members_of};
@@ -18,9 +17,8 @@ pub(crate) fn put_interface<K: Sink>(
     sink: &mut K,
     this: &IfCounters<'_>,
 ) -> Result<(), Failed>
-    ensures prints { Prints (K.taken sink.old) (K.taken sink.new) page.old page.new result
+    ensures { Prints (K.seen sink.old) (K.seen sink.new) page.old page.new result
         (interface_front (members_of (interface_content this.now).0)) }
-    ensures cause { HasCause (K.faults sink.old) (K.faults sink.new) result }
 {
     let numbers = [
         this.index as u64,
@@ -53,9 +51,8 @@ pub(crate) fn put_dot3<K: Sink>(
     sink: &mut K,
     this: &EthernetCounters<'_>,
 ) -> Result<(), Failed>
-    ensures prints { Prints (K.taken sink.old) (K.taken sink.new) page.old page.new result
+    ensures { Prints (K.seen sink.old) (K.seen sink.new) page.old page.new result
         (dot3_front (members_of (ethernet_content this.now).0)) }
-    ensures cause { HasCause (K.faults sink.old) (K.faults sink.new) result }
 {
     let numbers = [
         this.alignment_errors as u64,
@@ -82,9 +79,8 @@ pub(crate) fn put_vlan<K: Sink>(
     sink: &mut K,
     this: &VlanCounters<'_>,
 ) -> Result<(), Failed>
-    ensures prints { Prints (K.taken sink.old) (K.taken sink.new) page.old page.new result
+    ensures { Prints (K.seen sink.old) (K.seen sink.new) page.old page.new result
         (vlan_front (members_of (vlan_content this.now).0)) }
-    ensures cause { HasCause (K.faults sink.old) (K.faults sink.new) result }
 {
     let numbers = [
         this.vlan as u64,
@@ -104,9 +100,8 @@ fn put_named<K: Sink>(
     name: &str,
     numbers: &[u64],
 ) -> Result<(), Failed>
-    ensures prints { Prints (K.taken sink.old) (K.taken sink.new) page.old page.new result
+    ensures { Prints (K.seen sink.old) (K.seen sink.new) page.old page.new result
         (name.now ++ flat_map (λ n. codes " " ++ decimal n) numbers.now) }
-    ensures cause { HasCause (K.faults sink.old) (K.faults sink.new) result }
 {
     put_text(page, sink, name)?;
     put_row(page, sink, numbers)

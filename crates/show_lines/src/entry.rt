@@ -1,7 +1,6 @@
 ghost use Rattle.std.specs.Prelude.{◌≡◌, ◌≤◌, length};
 ghost use Rattle.datagram_views.specs.Trees.{tree_of};
-ghost use Rattle.sflow_io.specs.Causes.{HasCause};
-ghost use Rattle.sflow_io.specs.Streams.{WritesAll};
+ghost use Rattle.sflow_io.specs.Seen.{WritesAll};
 ghost use Rattle.text_lines.specs.Pages.{Prints};
 ghost use Rattle.show_lines.specs.Shown.{entry_text, outcome_of, outcome_text, datagram_text};
 
@@ -24,9 +23,8 @@ pub fn put_entry<K: Sink>(
     at: u64,
     bytes: &[u8],
 ) -> Result<(), Failed>
-    ensures prints { Prints (K.taken sink.old) (K.taken sink.new) page.old page.new result
+    ensures { Prints (K.seen sink.old) (K.seen sink.new) page.old page.new result
         (entry_text number (record { arrival = at; bytes = bytes.now })) }
-    ensures cause { HasCause (K.faults sink.old) (K.faults sink.new) result }
 {
     put_entry_line(page, sink, number, at, bytes.len())?;
     put_outcome(page, sink, bytes)
@@ -43,9 +41,8 @@ pub fn show_entry<K: Sink>(
     bytes: &[u8],
 ) -> Result<(), WriteFault>
     requires { length bytes.now ≤ 65535 }
-    ensures writes { WritesAll (K.taken sink.old) (K.taken sink.new) result
+    ensures { WritesAll (K.seen sink.old) (K.seen sink.new) result
         (entry_text number (record { arrival = at; bytes = bytes.now })) }
-    ensures cause { HasCause (K.faults sink.old) (K.faults sink.new) result }
 {
     match write_entry(sink, number, at, bytes) {
         Ok(()) => Ok(()),
@@ -55,9 +52,8 @@ pub fn show_entry<K: Sink>(
 
 // The same through a page of its own.
 fn write_entry<K: Sink>(sink: &mut K, number: u64, at: u64, bytes: &[u8]) -> Result<(), Failed>
-    ensures writes { WritesAll (K.taken sink.old) (K.taken sink.new) result
+    ensures { WritesAll (K.seen sink.old) (K.seen sink.new) result
         (entry_text number (record { arrival = at; bytes = bytes.now })) }
-    ensures cause { HasCause (K.faults sink.old) (K.faults sink.new) result }
 {
     let mut page = Page::new();
     put_entry(&mut page, sink, number, at, bytes)?;
@@ -66,9 +62,8 @@ fn write_entry<K: Sink>(sink: &mut K, number: u64, at: u64, bytes: &[u8]) -> Res
 
 // The lines of the datagram that the bytes are, or that of their first fault.
 fn put_outcome<K: Sink>(page: &mut Page, sink: &mut K, bytes: &[u8]) -> Result<(), Failed>
-    ensures prints { Prints (K.taken sink.old) (K.taken sink.new) page.old page.new result
+    ensures { Prints (K.seen sink.old) (K.seen sink.new) page.old page.new result
         (outcome_text (outcome_of bytes.now)) }
-    ensures cause { HasCause (K.faults sink.old) (K.faults sink.new) result }
 {
     match Datagram::parse(bytes, Pad::Any) {
         Ok(datagram) => put_datagram(page, sink, &datagram),
@@ -82,9 +77,8 @@ fn put_datagram<K: Sink>(
     sink: &mut K,
     datagram: &Datagram<'_>,
 ) -> Result<(), Failed>
-    ensures prints { Prints (K.taken sink.old) (K.taken sink.new) page.old page.new result
+    ensures { Prints (K.seen sink.old) (K.seen sink.new) page.old page.new result
         (datagram_text (tree_of datagram.now)) }
-    ensures cause { HasCause (K.faults sink.old) (K.faults sink.new) result }
 {
     let samples = datagram.samples();
     put_head(page, sink, &datagram.head(), samples.len())?;

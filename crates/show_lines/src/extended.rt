@@ -1,7 +1,6 @@
 // The lines of the records of switches and routes, up to the tail.
 ghost use Rattle.rec_extended.specs.Contents.{switch_content};
 ghost use Rattle.rec_extended.specs.RouteContents.{router_content, gateway_content};
-ghost use Rattle.sflow_io.specs.Causes.{HasCause};
 ghost use Rattle.text_lines.specs.Pages.{Prints};
 ghost use Rattle.show_lines.specs.Fields.{members_of};
 ghost use Rattle.show_lines.specs.FlowLines.{switch_front, router_front, route_text, gateway_front};
@@ -19,9 +18,8 @@ pub(crate) fn put_switch<K: Sink>(
     sink: &mut K,
     this: &SwitchRec<'_>,
 ) -> Result<(), Failed>
-    ensures prints { Prints (K.taken sink.old) (K.taken sink.new) page.old page.new result
+    ensures { Prints (K.seen sink.old) (K.seen sink.new) page.old page.new result
         (switch_front (members_of (switch_content this.now).0)) }
-    ensures cause { HasCause (K.faults sink.old) (K.faults sink.new) result }
 {
     let pieces = [
         Piece::Text("  switch src "),
@@ -42,9 +40,8 @@ pub(crate) fn put_router<K: Sink>(
     sink: &mut K,
     this: &RouterRec<'_>,
 ) -> Result<(), Failed>
-    ensures prints { Prints (K.taken sink.old) (K.taken sink.new) page.old page.new result
+    ensures { Prints (K.seen sink.old) (K.seen sink.new) page.old page.new result
         (router_front (members_of (router_content this.now).0)) }
-    ensures cause { HasCause (K.faults sink.old) (K.faults sink.new) result }
 {
     let pieces = [
         Piece::Text("  router nexthop "),
@@ -63,9 +60,8 @@ pub(crate) fn put_gateway<K: Sink>(
     sink: &mut K,
     this: &GatewayRec<'_>,
 ) -> Result<(), Failed>
-    ensures prints { Prints (K.taken sink.old) (K.taken sink.new) page.old page.new result
+    ensures { Prints (K.seen sink.old) (K.seen sink.new) page.old page.new result
         (gateway_front (members_of (gateway_content this.now).0)) }
-    ensures cause { HasCause (K.faults sink.old) (K.faults sink.new) result }
 {
     put_route(page, sink, this)?;
     put_text(page, sink, " path ")?;
@@ -81,9 +77,8 @@ pub(crate) fn put_gateway<K: Sink>(
 
 // What stands before its path.
 fn put_route<K: Sink>(page: &mut Page, sink: &mut K, this: &GatewayRec<'_>) -> Result<(), Failed>
-    ensures prints { Prints (K.taken sink.old) (K.taken sink.new) page.old page.new result
+    ensures { Prints (K.seen sink.old) (K.seen sink.new) page.old page.new result
         (route_text (members_of (gateway_content this.now).0)) }
-    ensures cause { HasCause (K.faults sink.old) (K.faults sink.new) result }
 {
     let pieces = [
         Piece::Text("  gateway nexthop "),

@@ -1,6 +1,5 @@
 // The lines of the records of a sampled packet's headers, up to the tail.
 ghost use Rattle.rec_headers.specs.Contents.{raw_content, ethernet_content, ipv4_content, ipv6_content};
-ghost use Rattle.sflow_io.specs.Causes.{HasCause};
 ghost use Rattle.text_lines.specs.Pages.{Prints};
 ghost use Rattle.show_lines.specs.Fields.{members_of};
 ghost use Rattle.show_lines.specs.FlowLines.{header_front, ethernet_front, ipv4_front, ipv6_front};
@@ -17,9 +16,8 @@ pub(crate) fn put_header<K: Sink>(
     sink: &mut K,
     this: &RawHeader<'_>,
 ) -> Result<(), Failed>
-    ensures prints { Prints (K.taken sink.old) (K.taken sink.new) page.old page.new result
+    ensures { Prints (K.seen sink.old) (K.seen sink.new) page.old page.new result
         (header_front (members_of (raw_content this.now).0)) }
-    ensures cause { HasCause (K.faults sink.old) (K.faults sink.new) result }
 {
     let pieces = [
         Piece::Text("  header protocol "),
@@ -43,9 +41,8 @@ pub(crate) fn put_ethernet<K: Sink>(
     sink: &mut K,
     this: &EthernetRec<'_>,
 ) -> Result<(), Failed>
-    ensures prints { Prints (K.taken sink.old) (K.taken sink.new) page.old page.new result
+    ensures { Prints (K.seen sink.old) (K.seen sink.new) page.old page.new result
         (ethernet_front (members_of (ethernet_content this.now).0)) }
-    ensures cause { HasCause (K.faults sink.old) (K.faults sink.new) result }
 {
     let pieces = [
         Piece::Text("  ethernet length "),
@@ -67,9 +64,8 @@ pub(crate) fn put_ipv4<K: Sink>(
     sink: &mut K,
     this: &Ipv4Rec<'_>,
 ) -> Result<(), Failed>
-    ensures prints { Prints (K.taken sink.old) (K.taken sink.new) page.old page.new result
+    ensures { Prints (K.seen sink.old) (K.seen sink.new) page.old page.new result
         (ipv4_front (members_of (ipv4_content this.now).0)) }
-    ensures cause { HasCause (K.faults sink.old) (K.faults sink.new) result }
 {
     let pieces = [
         Piece::Text("  ipv4 length "),
@@ -99,9 +95,8 @@ pub(crate) fn put_ipv6<K: Sink>(
     sink: &mut K,
     this: &Ipv6Rec<'_>,
 ) -> Result<(), Failed>
-    ensures prints { Prints (K.taken sink.old) (K.taken sink.new) page.old page.new result
+    ensures { Prints (K.seen sink.old) (K.seen sink.new) page.old page.new result
         (ipv6_front (members_of (ipv6_content this.now).0)) }
-    ensures cause { HasCause (K.faults sink.old) (K.faults sink.new) result }
 {
     let pieces = [
         Piece::Text("  ipv6 length "),

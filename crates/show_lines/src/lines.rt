@@ -1,8 +1,5 @@
 // The lines, from plain values.
-ghost use Rattle.std.specs.Prelude.{◌≡◌};
-ghost use Rattle.wire_spec.specs.FaultNames.{fault_name};
 ghost use Rattle.datagram_views.specs.Heads.{head_of};
-ghost use Rattle.sflow_io.specs.Causes.{HasCause};
 ghost use Rattle.text_lines.specs.Pages.{Prints};
 ghost use Rattle.show_lines.specs.Lines.{entry_line, fault_line, datagram_line, flow_front, counters_front, frame_front, line_end};
 
@@ -10,7 +7,7 @@ use data_format::{CountersHead, FlowHead, Format};
 use datagram_views::DatagramHead;
 use sflow_io::{Failed, Sink};
 use text_lines::{Page, Piece};
-use wire_spec::{Fault, FaultKind};
+use wire_spec::Fault;
 
 // The number of an entry, its arrival in ms, and how many bytes it has.
 #[tactic(auto, unfolding(crate::specs::Lines::entry_line))]
@@ -21,9 +18,8 @@ pub(crate) fn put_entry_line<K: Sink>(
     at: u64,
     count: usize,
 ) -> Result<(), Failed>
-    ensures prints { Prints (K.taken sink.old) (K.taken sink.new) page.old page.new result
+    ensures { Prints (K.seen sink.old) (K.seen sink.new) page.old page.new result
         (entry_line number at count) }
-    ensures cause { HasCause (K.faults sink.old) (K.faults sink.new) result }
 {
     let pieces = [
         Piece::Text("entry "),
@@ -37,33 +33,17 @@ pub(crate) fn put_entry_line<K: Sink>(
     page.put_line(sink, &pieces)
 }
 
-// The kind of a fault as it is printed.
-fn kind_name(kind: &FaultKind) -> &'static str
-    ensures { result.now ≡ fault_name kind.now }
-{
-    match kind {
-        FaultKind::Short { .. } => "short",
-        FaultKind::Pad => "pad",
-        FaultKind::Version { .. } => "version",
-        FaultKind::AddressType { .. } => "address",
-        FaultKind::SegmentType { .. } => "segment",
-        FaultKind::Trailing { .. } => "trailing",
-        FaultKind::TooLong => "toolong",
-    }
-}
-
 // The place of a fault, and its kind.
 #[tactic(auto, unfolding(crate::specs::Lines::fault_line))]
 pub(crate) fn put_fault<K: Sink>(page: &mut Page, sink: &mut K, fault: &Fault) -> Result<(), Failed>
-    ensures prints { Prints (K.taken sink.old) (K.taken sink.new) page.old page.new result
+    ensures { Prints (K.seen sink.old) (K.seen sink.new) page.old page.new result
         (fault_line fault.now) }
-    ensures cause { HasCause (K.faults sink.old) (K.faults sink.new) result }
 {
     let pieces = [
         Piece::Text("fault at "),
         Piece::Number(fault.at as u128),
         Piece::Text(" kind "),
-        Piece::Text(kind_name(&fault.kind)),
+        Piece::Kind(fault.kind),
         Piece::Text("\n"),
     ];
     page.put_line(sink, &pieces)
@@ -77,9 +57,8 @@ pub(crate) fn put_head<K: Sink>(
     head: &DatagramHead,
     samples: u32,
 ) -> Result<(), Failed>
-    ensures prints { Prints (K.taken sink.old) (K.taken sink.new) page.old page.new result
+    ensures { Prints (K.seen sink.old) (K.seen sink.new) page.old page.new result
         (datagram_line (head_of head.now) samples) }
-    ensures cause { HasCause (K.faults sink.old) (K.faults sink.new) result }
 {
     let pieces = [
         Piece::Text("datagram agent "),
@@ -106,9 +85,8 @@ pub(crate) fn put_flow<K: Sink>(
     head: &FlowHead,
     records: u32,
 ) -> Result<(), Failed>
-    ensures prints { Prints (K.taken sink.old) (K.taken sink.new) page.old page.new result
+    ensures { Prints (K.seen sink.old) (K.seen sink.new) page.old page.new result
         (flow_front name.now head.now records) }
-    ensures cause { HasCause (K.faults sink.old) (K.faults sink.new) result }
 {
     let pieces = [
         Piece::Text(name),
@@ -147,9 +125,8 @@ pub(crate) fn put_counters<K: Sink>(
     head: &CountersHead,
     records: u32,
 ) -> Result<(), Failed>
-    ensures prints { Prints (K.taken sink.old) (K.taken sink.new) page.old page.new result
+    ensures { Prints (K.seen sink.old) (K.seen sink.new) page.old page.new result
         (counters_front name.now head.now records) }
-    ensures cause { HasCause (K.faults sink.old) (K.faults sink.new) result }
 {
     let pieces = [
         Piece::Text(name),
@@ -174,9 +151,8 @@ pub(crate) fn put_frame<'a, K: Sink>(
     format: Format,
     body: &'a [u8],
 ) -> Result<(), Failed>
-    ensures prints { Prints (K.taken sink.old) (K.taken sink.new) page.old page.new result
+    ensures { Prints (K.seen sink.old) (K.seen sink.new) page.old page.new result
         (frame_front name.now format body.now) }
-    ensures cause { HasCause (K.faults sink.old) (K.faults sink.new) result }
 {
     let pieces = [
         Piece::Text(name),
@@ -198,9 +174,8 @@ pub(crate) fn put_line_end<K: Sink>(
     sink: &mut K,
     tail: &[u8],
 ) -> Result<(), Failed>
-    ensures prints { Prints (K.taken sink.old) (K.taken sink.new) page.old page.new result
+    ensures { Prints (K.seen sink.old) (K.seen sink.new) page.old page.new result
         (line_end tail.now) }
-    ensures cause { HasCause (K.faults sink.old) (K.faults sink.new) result }
 {
     if tail.is_empty() {
         return page.put_line(sink, &[Piece::Text("\n")]);

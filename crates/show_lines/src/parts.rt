@@ -1,7 +1,6 @@
 // Parts of lines.
 ghost use Rattle.std.specs.Prelude.{◌++◌, codes, decimal, drop, flat_map};
 ghost use Rattle.as_paths.specs.WordLists.{word_trees};
-ghost use Rattle.sflow_io.specs.Causes.{HasCause};
 ghost use Rattle.text_lines.specs.Pages.{Prints};
 ghost use Rattle.show_lines.specs.Joined.{texts_of, number_text, list_text};
 
@@ -11,8 +10,7 @@ use text_lines::{Page, Piece};
 
 // Text as it stands.
 pub(crate) fn put_text<K: Sink>(page: &mut Page, sink: &mut K, text: &str) -> Result<(), Failed>
-    ensures prints { Prints (K.taken sink.old) (K.taken sink.new) page.old page.new result text.now }
-    ensures cause { HasCause (K.faults sink.old) (K.faults sink.new) result }
+    ensures { Prints (K.seen sink.old) (K.seen sink.new) page.old page.new result text.now }
 {
     page.put_line(sink, &[Piece::Text(text)])
 }
@@ -24,18 +22,16 @@ pub(crate) fn put_number<K: Sink>(
     before: &str,
     number: u64,
 ) -> Result<(), Failed>
-    ensures prints { Prints (K.taken sink.old) (K.taken sink.new) page.old page.new result
+    ensures { Prints (K.seen sink.old) (K.seen sink.new) page.old page.new result
         (before.now ++ decimal number) }
-    ensures cause { HasCause (K.faults sink.old) (K.faults sink.new) result }
 {
     page.put_line(sink, &[Piece::Text(before), Piece::Number(number as u128)])
 }
 
 // Numbers, each behind a space.
 pub(crate) fn put_row<K: Sink>(page: &mut Page, sink: &mut K, numbers: &[u64]) -> Result<(), Failed>
-    ensures prints { Prints (K.taken sink.old) (K.taken sink.new) page.old page.new result
+    ensures { Prints (K.seen sink.old) (K.seen sink.new) page.old page.new result
         (flat_map (λ n. codes " " ++ decimal n) numbers.now) }
-    ensures cause { HasCause (K.faults sink.old) (K.faults sink.new) result }
 {
     for number in numbers {
         put_number(page, sink, " ", *number)?;
@@ -49,9 +45,8 @@ pub(crate) fn put_list<K: Sink>(
     sink: &mut K,
     numbers: &Words<'_>,
 ) -> Result<(), Failed>
-    ensures prints { Prints (K.taken sink.old) (K.taken sink.new) page.old page.new result
+    ensures { Prints (K.seen sink.old) (K.seen sink.new) page.old page.new result
         (list_text (word_trees numbers.now)) }
-    ensures cause { HasCause (K.faults sink.old) (K.faults sink.new) result }
 {
     match numbers.get(0) {
         None => put_text(page, sink, "-"),
@@ -64,9 +59,8 @@ pub(crate) fn put_list<K: Sink>(
 
 // Each number behind the first, and a comma before it.
 fn put_further<K: Sink>(page: &mut Page, sink: &mut K, numbers: &Words<'_>) -> Result<(), Failed>
-    ensures prints { Prints (K.taken sink.old) (K.taken sink.new) page.old page.new result
+    ensures { Prints (K.seen sink.old) (K.seen sink.new) page.old page.new result
         (texts_of (λ n. codes "," ++ number_text n) (word_trees (drop 1 numbers.now))) }
-    ensures cause { HasCause (K.faults sink.old) (K.faults sink.new) result }
 {
     for place in 1..numbers.len() {
         if let Some(number) = numbers.get(place) {

@@ -1,7 +1,6 @@
 // The text of an AS path.
 ghost use Rattle.std.specs.Prelude.{◌≡◌, ◌++◌, codes};
 ghost use Rattle.as_paths.specs.Paths.{kind_word, segment_tree, segment_trees};
-ghost use Rattle.sflow_io.specs.Causes.{HasCause};
 ghost use Rattle.text_lines.specs.Pages.{Prints};
 ghost use Rattle.show_lines.specs.Joined.{texts_of, segment_name, segment_text, path_text};
 
@@ -16,9 +15,8 @@ pub(crate) fn put_path<K: Sink>(
     sink: &mut K,
     mut path: AsPath<'_>,
 ) -> Result<(), Failed>
-    ensures prints { Prints (K.taken sink.old) (K.taken sink.new) page.old page.new result
+    ensures { Prints (K.seen sink.old) (K.seen sink.new) page.old page.new result
         (path_text (segment_trees path.entry)) }
-    ensures cause { HasCause (K.faults sink.old) (K.faults sink.new) result }
 {
     match path.next() {
         None => put_text(page, sink, "-"),
@@ -31,9 +29,8 @@ pub(crate) fn put_path<K: Sink>(
 
 // Each segment that is left, and a semicolon before it.
 fn put_segments<K: Sink>(page: &mut Page, sink: &mut K, mut rest: AsPath<'_>) -> Result<(), Failed>
-    ensures prints { Prints (K.taken sink.old) (K.taken sink.new) page.old page.new result
+    ensures { Prints (K.seen sink.old) (K.seen sink.new) page.old page.new result
         (texts_of (λ s. codes ";" ++ segment_text s) (segment_trees rest.entry)) }
-    ensures cause { HasCause (K.faults sink.old) (K.faults sink.new) result }
 {
     while let Some(segment) = rest.next() {
         put_segment(page, sink, ";", &segment)?;
@@ -48,9 +45,8 @@ fn put_segment<K: Sink>(
     before: &str,
     segment: &Segment<'_>,
 ) -> Result<(), Failed>
-    ensures prints { Prints (K.taken sink.old) (K.taken sink.new) page.old page.new result
+    ensures { Prints (K.seen sink.old) (K.seen sink.new) page.old page.new result
         (before.now ++ segment_text (segment_tree segment.now)) }
-    ensures cause { HasCause (K.faults sink.old) (K.faults sink.new) result }
 {
     put_text(page, sink, before)?;
     put_text(page, sink, name_of(segment))?;

@@ -4,7 +4,6 @@ ghost use Rattle.data_format.specs.Trees.{frame_tree, trees_of};
 ghost use Rattle.data_format.specs.Views.{FrameView};
 ghost use Rattle.datagram_views.specs.Records.{IsRecordOf, record_tree, table_of};
 ghost use Rattle.datagram_views.specs.declared.records.RecordKind.{RecordKind};
-ghost use Rattle.sflow_io.specs.Causes.{HasCause};
 ghost use Rattle.text_lines.specs.Pages.{Prints};
 ghost use Rattle.show_lines.specs.Fields.{tail_in};
 ghost use Rattle.show_lines.specs.Joined.{texts_of};
@@ -24,10 +23,9 @@ pub(crate) fn put_records<K: Sink>(
     sink: &mut K,
     mut records: Records<'_>,
 ) -> Result<(), Failed>
-    ensures prints { Prints (K.taken sink.old) (K.taken sink.new) page.old page.new result
+    ensures { Prints (K.seen sink.old) (K.seen sink.new) page.old page.new result
         (texts_of (record_text records.entry.kind)
         (trees_of (frame_tree (table_of records.entry.kind)) records.entry.frames)) }
-    ensures cause { HasCause (K.faults sink.old) (K.faults sink.new) result }
 {
     while let Some(record) = records.next() {
         put_record(page, sink, &record)?;
@@ -37,9 +35,8 @@ pub(crate) fn put_records<K: Sink>(
 
 // The line of a record of this kind, with its end.
 fn put_record<K: Sink>(page: &mut Page, sink: &mut K, this: &Record<'_>) -> Result<(), Failed>
-    ensures prints { (kind : RecordKind) (f : FrameView) → IsRecordOf kind f this.now
-        → Prints (K.taken sink.old) (K.taken sink.new) page.old page.new result (record_text kind (record_tree this.now)) }
-    ensures cause { HasCause (K.faults sink.old) (K.faults sink.new) result }
+    ensures { (kind : RecordKind) (f : FrameView) → IsRecordOf kind f this.now
+        → Prints (K.seen sink.old) (K.seen sink.new) page.old page.new result (record_text kind (record_tree this.now)) }
 {
     put_record_front(page, sink, this)?;
     put_line_end(page, sink, tail_of(this))
@@ -47,9 +44,8 @@ fn put_record<K: Sink>(page: &mut Page, sink: &mut K, this: &Record<'_>) -> Resu
 
 // The line up to its tail.
 fn put_record_front<K: Sink>(page: &mut Page, sink: &mut K, this: &Record<'_>) -> Result<(), Failed>
-    ensures prints { (kind : RecordKind) (f : FrameView) → IsRecordOf kind f this.now
-        → Prints (K.taken sink.old) (K.taken sink.new) page.old page.new result (record_front kind (record_tree this.now)) }
-    ensures cause { HasCause (K.faults sink.old) (K.faults sink.new) result }
+    ensures { (kind : RecordKind) (f : FrameView) → IsRecordOf kind f this.now
+        → Prints (K.seen sink.old) (K.seen sink.new) page.old page.new result (record_front kind (record_tree this.now)) }
 {
     match this {
         Record::RawHeader(r) => put_header(page, sink, r),

@@ -4,7 +4,6 @@ ghost use Rattle.data_format.specs.Trees.{frame_trees};
 ghost use Rattle.data_format.specs.Views.{FrameView};
 ghost use Rattle.datagram_views.specs.Samples.{IsSampleOf, HasRecords, sample_tree};
 ghost use Rattle.datagram_views.specs.Tables.{samples_read};
-ghost use Rattle.sflow_io.specs.Causes.{HasCause};
 ghost use Rattle.text_lines.specs.Pages.{Prints};
 ghost use Rattle.show_lines.specs.Fields.{tail_in};
 ghost use Rattle.show_lines.specs.Joined.{texts_of};
@@ -22,9 +21,8 @@ pub(crate) fn put_samples<K: Sink>(
     sink: &mut K,
     mut samples: Samples<'_>,
 ) -> Result<(), Failed>
-    ensures prints { Prints (K.taken sink.old) (K.taken sink.new) page.old page.new result
+    ensures { Prints (K.seen sink.old) (K.seen sink.new) page.old page.new result
         (texts_of sample_text (frame_trees samples_read samples.entry)) }
-    ensures cause { HasCause (K.faults sink.old) (K.faults sink.new) result }
 {
     while let Some(sample) = samples.next() {
         put_sample(page, sink, &sample)?;
@@ -35,9 +33,8 @@ pub(crate) fn put_samples<K: Sink>(
 // The line of a sample, and those of its records.
 fn put_sample<K: Sink>(page: &mut Page, sink: &mut K, sample: &Sample<'_>) -> Result<(), Failed>
     requires { HasRecords sample.now }
-    ensures prints { (f : FrameView) → IsSampleOf f sample.now
-        → Prints (K.taken sink.old) (K.taken sink.new) page.old page.new result (sample_text (sample_tree sample.now)) }
-    ensures cause { HasCause (K.faults sink.old) (K.faults sink.new) result }
+    ensures { (f : FrameView) → IsSampleOf f sample.now
+        → Prints (K.seen sink.old) (K.seen sink.new) page.old page.new result (sample_text (sample_tree sample.now)) }
 {
     put_sample_front(page, sink, sample)?;
     put_line_end(page, sink, tail_of(sample))?;
@@ -50,9 +47,8 @@ fn put_sample_front<K: Sink>(
     sink: &mut K,
     sample: &Sample<'_>,
 ) -> Result<(), Failed>
-    ensures prints { (f : FrameView) → IsSampleOf f sample.now
-        → Prints (K.taken sink.old) (K.taken sink.new) page.old page.new result (sample_front (sample_tree sample.now)) }
-    ensures cause { HasCause (K.faults sink.old) (K.faults sink.new) result }
+    ensures { (f : FrameView) → IsSampleOf f sample.now
+        → Prints (K.seen sink.old) (K.seen sink.new) page.old page.new result (sample_front (sample_tree sample.now)) }
 {
     match sample {
         Sample::Flow(s) => put_flow(page, sink, " flow", &s.head(), s.frames().len()),

@@ -1,14 +1,13 @@
 ghost use Rattle.std.specs.Prelude.{◌≡◌, ◌≤◌, ◌+◌, [], ◌++◌, length, decimal};
 ghost use Rattle.data_format.specs.Addresses.{address_of};
 ghost use Rattle.wire_spec.specs.Texts.{address_text, hex};
-ghost use Rattle.sflow_io.specs.Causes.{HasCause};
-ghost use Rattle.sflow_io.specs.Streams.{AppendsPrefix};
 ghost use Rattle.text_lines.specs.Bytes.{hex_or_dash, mac_text};
 ghost use Rattle.text_lines.specs.Pages.{Prints, Flushes};
 
 use crate::Piece;
 use crate::address::{dotted, grouped};
 use crate::hex::{colons, pair};
+use crate::piece::kind_name;
 use data_format::{Address, Mac};
 use itoa::Buffer;
 use sflow_io::{Failed, Sink, write_all};
@@ -46,10 +45,10 @@ impl Page {
     }
 
     /// Writes what the page holds, and empties it.
-    /// `Failed` is the sink's own; then the sink has taken a prefix of it, and the page is as before.
+    /// `Failed` is the sink's own; then the sink has taken a prefix of it, the call that failed was the last, and the
+    /// page is as before.
     pub fn flush<K: Sink>(&mut self, sink: &mut K) -> Result<(), Failed>
-        ensures flushes { Flushes (K.taken sink.old) (K.taken sink.new) self.old self.new result }
-        ensures cause { HasCause (K.faults sink.old) (K.faults sink.new) result }
+        ensures { Flushes (K.seen sink.old) (K.seen sink.new) self.old self.new result }
     {
         write_all(sink, &self.room[..self.len])?;
         self.len = 0;
@@ -69,8 +68,7 @@ impl Page {
     /// Gathers bytes. Where they don't fit beside what the page holds, that is written first, and then so are they if
     /// they fill more than a page. `Failed` is the sink's own.
     pub fn put<K: Sink>(&mut self, sink: &mut K, bytes: &[u8]) -> Result<(), Failed>
-        ensures prints { Prints (K.taken sink.old) (K.taken sink.new) self.old self.new result bytes.now }
-        ensures cause { HasCause (K.faults sink.old) (K.faults sink.new) result }
+        ensures { Prints (K.seen sink.old) (K.seen sink.new) self.old self.new result bytes.now }
     {
         if bytes.len() > ROOM - self.len {
             self.flush(sink)?;
@@ -83,18 +81,16 @@ impl Page {
     }
 
     fn put_number<K: Sink>(&mut self, sink: &mut K, number: u128) -> Result<(), Failed>
-        ensures prints { Prints (K.taken sink.old) (K.taken sink.new) self.old self.new result
+        ensures { Prints (K.seen sink.old) (K.seen sink.new) self.old self.new result
             (decimal number) }
-        ensures cause { HasCause (K.faults sink.old) (K.faults sink.new) result }
     {
         let mut digits = Buffer::new();
         self.put(sink, digits.format(number).as_bytes())
     }
 
     fn put_address<K: Sink>(&mut self, sink: &mut K, address: &Address) -> Result<(), Failed>
-        ensures prints { Prints (K.taken sink.old) (K.taken sink.new) self.old self.new result
+        ensures { Prints (K.seen sink.old) (K.seen sink.new) self.old self.new result
             (address_text (address_of address.now)) }
-        ensures cause { HasCause (K.faults sink.old) (K.faults sink.new) result }
     {
         match address {
             Address::Unknown => self.put(sink, b"unknown"),
@@ -104,9 +100,8 @@ impl Page {
     }
 
     fn put_hex<K: Sink>(&mut self, sink: &mut K, bytes: &[u8]) -> Result<(), Failed>
-        ensures prints { Prints (K.taken sink.old) (K.taken sink.new) self.old self.new result
+        ensures { Prints (K.seen sink.old) (K.seen sink.new) self.old self.new result
             (hex_or_dash bytes.now) }
-        ensures cause { HasCause (K.faults sink.old) (K.faults sink.new) result }
     {
         if bytes.is_empty() {
             return self.put(sink, b"-");
@@ -115,9 +110,8 @@ impl Page {
     }
 
     fn put_pairs<K: Sink>(&mut self, sink: &mut K, bytes: &[u8]) -> Result<(), Failed>
-        ensures prints { Prints (K.taken sink.old) (K.taken sink.new) self.old self.new result
+        ensures { Prints (K.seen sink.old) (K.seen sink.new) self.old self.new result
             (hex bytes.now) }
-        ensures cause { HasCause (K.faults sink.old) (K.faults sink.new) result }
     {
         for byte in bytes {
             self.put(sink, &pair(*byte))?;
@@ -126,9 +120,8 @@ impl Page {
     }
 
     fn put_mac<K: Sink>(&mut self, sink: &mut K, mac: &Mac) -> Result<(), Failed>
-        ensures prints { Prints (K.taken sink.old) (K.taken sink.new) self.old self.new result
+        ensures { Prints (K.seen sink.old) (K.seen sink.new) self.old self.new result
             (mac_text mac.now.0) }
-        ensures cause { HasCause (K.faults sink.old) (K.faults sink.new) result }
     {
         self.put(sink, &colons(mac))
     }
@@ -138,9 +131,8 @@ impl Page {
     ghost use Rattle.text_lines.specs.Pieces.{piece_text, pieces_text};
 
     fn put_piece<K: Sink>(&mut self, sink: &mut K, piece: &Piece<'_>) -> Result<(), Failed>
-        ensures prints { Prints (K.taken sink.old) (K.taken sink.new) self.old self.new result
+        ensures { Prints (K.seen sink.old) (K.seen sink.new) self.old self.new result
             (piece_text piece.now) }
-        ensures cause { HasCause (K.faults sink.old) (K.faults sink.new) result }
     {
         match piece {
             Piece::Text(text) => self.put(sink, text.as_bytes()),
@@ -148,6 +140,7 @@ impl Page {
             Piece::Address(address) => self.put_address(sink, address),
             Piece::Hex(bytes) => self.put_hex(sink, bytes),
             Piece::Mac(mac) => self.put_mac(sink, mac),
+            Piece::Kind(kind) => self.put(sink, kind_name(kind).as_bytes()),
         }
     }
 
@@ -156,9 +149,8 @@ impl Page {
     /// `Failed` is the sink's own; then the sink has taken a prefix of that text, and what the page holds
     /// is left open.
     pub fn put_line<K: Sink>(&mut self, sink: &mut K, pieces: &[Piece<'_>]) -> Result<(), Failed>
-        ensures prints { Prints (K.taken sink.old) (K.taken sink.new) self.old self.new result
+        ensures { Prints (K.seen sink.old) (K.seen sink.new) self.old self.new result
             (pieces_text pieces.now) }
-        ensures cause { HasCause (K.faults sink.old) (K.faults sink.new) result }
     {
         for piece in pieces {
             self.put_piece(sink, piece)?;

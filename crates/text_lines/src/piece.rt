@@ -1,4 +1,8 @@
+ghost use Rattle.std.specs.Prelude.{◌≡◌};
+ghost use Rattle.wire_spec.specs.FaultNames.{fault_name};
+
 use data_format::{Address, Mac};
+use wire_spec::FaultKind;
 
 /// A piece of a line.
 #[derive(Clone, Copy, Debug)]
@@ -14,4 +18,21 @@ pub enum Piece<'a> {
     Hex(&'a [u8]),
     /// A MAC address (IEEE 802.3): six bytes, each as two such digits, with colons between them.
     Mac(Mac),
+    /// The kind of a fault: `short`, `pad`, `version`, `address`, `segment`, `trailing` or `toolong`.
+    Kind(FaultKind),
+}
+
+// The kind of a fault as it is printed.
+pub(crate) fn kind_name(kind: &FaultKind) -> &'static str
+    ensures { result.now ≡ fault_name kind.now }
+{
+    match kind {
+        FaultKind::Short { .. } => "short",
+        FaultKind::Pad => "pad",
+        FaultKind::Version { .. } => "version",
+        FaultKind::AddressType { .. } => "address",
+        FaultKind::SegmentType { .. } => "segment",
+        FaultKind::Trailing { .. } => "trailing",
+        FaultKind::TooLong => "toolong",
+    }
 }

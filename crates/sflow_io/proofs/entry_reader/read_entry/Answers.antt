@@ -1,6 +1,7 @@
 use Rattle.std.proofs.Common.{◌≡◌, ◌<◌, length, refl, arith}
 use Rattle.sflow_io.proofs.EntryFronts.{head_stops, head_cut, head_read, head_long, head_goes_on}
 use Rattle.sflow_io.proofs.Filled.{behind_held}
+use Rattle.sflow_io.proofs.ReadFaults.{stops_within, stops_at_head, stops_in_entry}
 use Rattle.sflow_io.proofs.entry_reader.read_entry.Goals as goal
 
 pub returns-then-count-eq0-clause-told : goal.returns-then-count-eq0-clause-told
@@ -34,3 +35,15 @@ returns-clause-told g c = λ bytes told.
 pub returns-then-count-eq0-clause-at_end : goal.returns-then-count-eq0-clause-at_end
 returns-then-count-eq0-clause-at_end g c =
     behind_held _ _ (c.in-Ok.ensures.reads.all (omega arith))
+
+pub returns-in_default-clause-stops : goal.returns-in_default-clause-stops
+returns-in_default-clause-stops g c = λ failed.
+    let room : length c.read_most.new.room ≡ 12 = omega arith in
+    let stops = stops_within _ _ _ _ 12 c.in_default.ensures.reads c.in_default.ensures.none room in
+    stops_at_head _ _ 12 stops (omega arith)
+
+pub returns-clause-stops : goal.returns-clause-stops
+returns-clause-stops g c = λ failed.
+    let room : length c.read_most.new.room ≡ 12 = omega arith in
+    stops_in_entry _ _ _ _ _ _ c.in-Ok.ensures.reads room c.if-count-lt12.false c.length_in-len.ensures
+    (c.read_body.ensures.stops failed)

@@ -1,5 +1,5 @@
 use Rattle.std.proofs.Common.{ℕ, ◌≡◌, List, ◌++◌, length, take, drop, slice_range, sym, ap, ◌∙◌, append_assoc, take-append-drop, take_all, length-drop, arith}
-use Rattle.std.proofs.KnownBytes.{Appends-trans}
+use Rattle.sflow_io.proofs.Prefixes.{takes-trans}
 use Rattle.sflow_io.proofs.sink.write_all.Goals as goal
 
 -- the front of what is left goes over to what was taken
@@ -16,5 +16,5 @@ pub loop-rest-preserved : goal.loop-rest-preserved
 loop-rest-preserved g c =
     let before = c.loop-rest.invariant in
     let write = c.in_ok-count.ensures in
-    let whole = move_front _ _ _ c.in_ok-count.count before.0.1 in
-    ((_, whole, Appends-trans _ _ _ _ _ before.0.2 write.bytes), write.cause.kept ∙ before.1)
+    let whole = move_front _ _ _ c.in_ok-count.count before.1 in
+    (_, whole, takes-trans _ _ _ _ _ before.2 write.writes)

@@ -1,13 +1,12 @@
 -- The front of the room is what left the source so far, and no call has failed.
-use Rattle.std.proofs.Common.{◌≡◌, ◌≤◌, ◌-◌, length, take}
-use Rattle.std.specs.Io.KnownBytes.{Consumes}
+use Rattle.std.proofs.Common.{◌≤◌, ◌-◌, length, take}
+use Rattle.sflow_io.specs.Seen.{Gives}
 use Rattle.sflow_io.proofs.source.read_most.Given as goal
 
 abbrev pub invariant-loop-filled : goal.invariant-loop-filled
 invariant-loop-filled g l = record {
   within : l.filled ≤ length l.room;
-  moved : Consumes (g.S.Source.left l.initial.source) (g.S.Source.left l.source) (take l.filled l.room);
-  faultless : g.S.Source.faults l.source ≡ g.S.Source.faults l.initial.source;
+  given : Gives (g.S.Source.seen l.initial.source) (g.S.Source.seen l.source) (take l.filled l.room);
 }
 
 abbrev pub decreases-loop-filled : goal.decreases-loop-filled

@@ -1,6 +1,6 @@
 use Rattle.text_lines.proofs.PageLaws.{page_written}
 use Rattle.show_lines.proofs.entry.write_entry.Goals as goal
 
-pub returns-clause-writes : goal.returns-clause-writes
-returns-clause-writes g c =
-    page_written _ _ _ _ _ _ _ _ c.new-page.ensures c.in_ok-put_entry.ensures.prints c.flush.ensures.flushes
+pub returns : goal.returns
+returns g c =
+    page_written _ _ _ _ _ _ _ _ c.new-page.ensures c.in_ok-put_entry.ensures c.flush.ensures

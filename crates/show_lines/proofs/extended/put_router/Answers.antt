@@ -3,7 +3,7 @@ use Rattle.show_lines.specs.FlowLines.{router_front}
 use Rattle.show_lines.proofs.Places.{address_in-tree}
 use Rattle.show_lines.proofs.extended.put_router.Goals as goal
 
-pub returns-clause-prints : goal.returns-clause-prints
+pub returns : goal.returns
 unfolding router_front
-returns-clause-prints g c =
-    rw (address_in-tree (address_of c.args.this.now.nexthop)) c.put_line.ensures.prints
+returns g c =
+    rw (address_in-tree (address_of c.args.this.now.nexthop)) c.put_line.ensures

@@ -1,4 +1,4 @@
-use Rattle.std.proofs.Common.{refl, ◌∙◌, arith}
+use Rattle.std.proofs.Common.{refl, arith}
 use Rattle.show_lines.proofs.Lists.{left_at}
 use Rattle.show_lines.proofs.Series.{one_more, one_fails}
 use Rattle.show_lines.proofs.parts.put_further.Goals as goal
@@ -12,16 +12,15 @@ loop-place-preserved g c =
           let next = left_at c.args.numbers.now c.loop-place.place _ w.in-Some.ensures.some in
           let put = w.in_ok-put_number.ensures in
           record {
-            far = rw (w.page-is, w.sink-is) (one_more _ _ _ _ _ _ _ _ before.far _ _ _ _ _ next refl put.prints);
-            kept = rw w.sink-is (put.cause.kept ∙ before.kept);
+            far = rw (w.page-is, w.sink-is) (one_more _ _ _ _ _ _ _ _ before.far _ _ _ _ _ next refl put);
           }
       | in_default w ↦
           absurd (omega (arith, w.in_default.ensures.none, c.len-place-end.ensures, c.loop-place-test.true))
     ]
 
-pub returns-in_err-put_number-clause-prints : goal.returns-in_err-put_number-clause-prints
-returns-in_err-put_number-clause-prints g c =
+pub returns-in_err-put_number : goal.returns-in_err-put_number
+returns-in_err-put_number g c =
     let before = c.loop-place.invariant in
     let next = left_at c.args.numbers.now c.loop-place.place _ c.in-Some.ensures.some in
     one_fails _ _ _ _ _ _ _ _ before.far _ _ _ _ _ next refl _ _ c.from_residual.ensures.1
-    c.in_err-put_number.ensures.prints
+    c.in_err-put_number.ensures

@@ -6,20 +6,20 @@ abbrev text : ℕ → List ℕ
 text n = codes " " ++ decimal n
 
 pub loop-number-init : goal.loop-number-init
-loop-number-init g c = (([], refl, puts_none _ _), refl)
+loop-number-init g c = ([], refl, puts_none _ _)
 
 pub loop-number-preserved : goal.loop-number-preserved
 loop-number-preserved g c =
     let before = c.loop-number.invariant in
     let put = c.in_ok-put_number.ensures in
     let next = texts-drop text c.args.numbers.now c.loop-number.number-index 0 c.loop-number-test.true in
-    let whole = before.0.1 ∙ ap (λ l. before.0.0 ++ l) next ∙ sym (append_assoc before.0.0 _ _) in
-    ((_, whole, puts_both _ _ _ _ _ _ _ _ before.0.2 put.prints), put.cause.kept ∙ before.1)
+    let whole = before.1 ∙ ap (λ l. before.0 ++ l) next ∙ sym (append_assoc before.0 _ _) in
+    (_, whole, puts_both _ _ _ _ _ _ _ _ before.2 put)
 
-pub returns-in_err-put_number-clause-prints : goal.returns-in_err-put_number-clause-prints
-returns-in_err-put_number-clause-prints g c =
+pub returns-in_err-put_number : goal.returns-in_err-put_number
+returns-in_err-put_number g c =
     let before = c.loop-number.invariant in
     let next = texts-drop text c.args.numbers.now c.loop-number.number-index 0 c.loop-number-test.true in
-    let whole = before.0.1 ∙ ap (λ l. before.0.0 ++ l) next in
+    let whole = before.1 ∙ ap (λ l. before.0 ++ l) next in
     prints_err _ _ _ _ _ _ _ c.from_residual.ensures.1
-    (puts_fails _ _ _ _ _ _ _ _ _ whole before.0.2 c.in_err-put_number.ensures.prints)
+    (puts_fails _ _ _ _ _ _ _ _ _ whole before.2 c.in_err-put_number.ensures)

@@ -6,6 +6,5 @@ use Rattle.show_lines.proofs.parts.put_row.Given as goal
 abbrev pub invariant-loop-number : goal.invariant-loop-number
 invariant-loop-number g l =
     let text : ℕ → List ℕ = λ n. codes " " ++ decimal n in
-    ((done : List ℕ) × (flat_map text l.numbers ≡ done ++ flat_map text (drop l.number-index l.numbers))
-    × Puts (g.K.Sink.taken l.initial.sink) (g.K.Sink.taken l.sink) l.initial.page l.page done)
-    × (g.K.Sink.faults l.sink ≡ g.K.Sink.faults l.initial.sink)
+    (done : List ℕ) × (flat_map text l.numbers ≡ done ++ flat_map text (drop l.number-index l.numbers))
+    × Puts (g.K.Sink.seen l.initial.sink) (g.K.Sink.seen l.sink) l.initial.page l.page done

@@ -1,5 +1,5 @@
 -- The segments so far were put, and no call has failed.
-use Rattle.std.proofs.Common.{◌≡◌, codes, ◌++◌, length}
+use Rattle.std.proofs.Common.{codes, ◌++◌, length}
 use Rattle.as_paths.specs.Paths.{segment_tree}
 use Rattle.show_lines.specs.Joined.{segment_text}
 use Rattle.show_lines.proofs.Series.{SoFar}
@@ -8,8 +8,7 @@ use Rattle.show_lines.proofs.path.put_segments.Given as goal
 abbrev pub invariant-loop-segment : goal.invariant-loop-segment
 invariant-loop-segment g l = record {
   far : SoFar (λ s. codes ";" ++ segment_text s) segment_tree l.initial.rest l.rest
-      (g.K.Sink.taken l.initial.sink) (g.K.Sink.taken l.sink) l.initial.page l.page;
-  kept : g.K.Sink.faults l.sink ≡ g.K.Sink.faults l.initial.sink;
+      (g.K.Sink.seen l.initial.sink) (g.K.Sink.seen l.sink) l.initial.page l.page;
 }
 
 abbrev pub decreases-loop-segment : goal.decreases-loop-segment

@@ -2,13 +2,13 @@ use Rattle.text_lines.proofs.PageLaws.{prints_first, prints_second}
 use Rattle.show_lines.specs.Shown.{record_text}
 use Rattle.show_lines.proofs.record.put_record.Goals as goal
 
-pub returns-in_err-put_record_front-clause-prints : goal.returns-in_err-put_record_front-clause-prints
+pub returns-in_err-put_record_front : goal.returns-in_err-put_record_front
 unfolding record_text
-returns-in_err-put_record_front-clause-prints g c = λ kind f is.
-    prints_first _ _ _ _ _ _ _ _ c.from_residual.ensures.1 (c.in_err-put_record_front.ensures.prints kind f is)
+returns-in_err-put_record_front g c = λ kind f is.
+    prints_first _ _ _ _ _ _ _ _ c.from_residual.ensures.1 (c.in_err-put_record_front.ensures kind f is)
 
-pub returns-clause-prints : goal.returns-clause-prints
+pub returns : goal.returns
 unfolding record_text
-returns-clause-prints g c = λ kind f is.
-    prints_second _ _ _ _ _ _ _ _ _ (c.in_ok-put_record_front.ensures.prints kind f is)
-    (rw c.tail_of.ensures at c.put_line_end.ensures.prints)
+returns g c = λ kind f is.
+    prints_second _ _ _ _ _ _ _ _ _ (c.in_ok-put_record_front.ensures kind f is)
+    (rw c.tail_of.ensures at c.put_line_end.ensures)

@@ -10,15 +10,14 @@ loop-record-preserved g c =
     let put = c.in_ok-put_record.ensures in
     let line = record_line _ _ some.0 _ before.kind some.2 in
     record {
-      far = one_more _ _ _ _ _ _ _ _ before.far some.0 _ _ _ _ some.1 line (put.prints _ some.0 some.2);
+      far = one_more _ _ _ _ _ _ _ _ before.far some.0 _ _ _ _ some.1 line (put _ some.0 some.2);
       kind = c.in-Some.ensures.kind ∙ before.kind;
-      kept = put.cause.kept ∙ before.kept;
     }
 
-pub returns-in_err-put_record-clause-prints : goal.returns-in_err-put_record-clause-prints
-returns-in_err-put_record-clause-prints g c =
+pub returns-in_err-put_record : goal.returns-in_err-put_record
+returns-in_err-put_record g c =
     let before = c.loop-record.invariant in
     let some = c.in-Some.ensures.some in
     let line = record_line _ _ some.0 _ before.kind some.2 in
     one_fails _ _ _ _ _ _ _ _ before.far some.0 _ _ _ _ some.1 line _ _ c.from_residual.ensures.1
-    (c.in_err-put_record.ensures.prints _ some.0 some.2)
+    (c.in_err-put_record.ensures _ some.0 some.2)

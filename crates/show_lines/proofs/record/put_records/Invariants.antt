@@ -9,9 +9,8 @@ use Rattle.show_lines.proofs.record.put_records.Given as goal
 abbrev pub invariant-loop-record : goal.invariant-loop-record
 invariant-loop-record g l = record {
   far : SoFar (record_text l.initial.records.kind) (frame_tree (table_of l.initial.records.kind))
-      l.initial.records.frames l.records.frames (g.K.Sink.taken l.initial.sink) (g.K.Sink.taken l.sink) l.initial.page l.page;
+      l.initial.records.frames l.records.frames (g.K.Sink.seen l.initial.sink) (g.K.Sink.seen l.sink) l.initial.page l.page;
   kind : l.records.kind ≡ l.initial.records.kind;
-  kept : g.K.Sink.faults l.sink ≡ g.K.Sink.faults l.initial.sink;
 }
 
 abbrev pub decreases-loop-record : goal.decreases-loop-record

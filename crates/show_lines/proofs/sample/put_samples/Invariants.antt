@@ -1,5 +1,5 @@
 -- The lines of the samples so far were put, and no call has failed.
-use Rattle.std.proofs.Common.{◌≡◌, length}
+use Rattle.std.proofs.Common.{length}
 use Rattle.data_format.specs.Trees.{frame_tree}
 use Rattle.datagram_views.specs.Tables.{samples_read}
 use Rattle.show_lines.specs.Shown.{sample_text}
@@ -9,8 +9,7 @@ use Rattle.show_lines.proofs.sample.put_samples.Given as goal
 abbrev pub invariant-loop-sample : goal.invariant-loop-sample
 invariant-loop-sample g l = record {
   far : SoFar sample_text (frame_tree samples_read) l.initial.samples l.samples
-      (g.K.Sink.taken l.initial.sink) (g.K.Sink.taken l.sink) l.initial.page l.page;
-  kept : g.K.Sink.faults l.sink ≡ g.K.Sink.faults l.initial.sink;
+      (g.K.Sink.seen l.initial.sink) (g.K.Sink.seen l.sink) l.initial.page l.page;
 }
 
 abbrev pub decreases-loop-sample : goal.decreases-loop-sample

@@ -35,7 +35,9 @@ split_at bytes seen copied old left at count most piece view same copy_is most_i
           )),
     )
 
-pub returns-clause-bytes : goal.returns-clause-bytes
-returns-clause-bytes c =
+pub returns-clause-reads : goal.returns-clause-reads
+returns-clause-reads c =
+    let split =
     split_at _ _ _ _ _ _ _ _ _ (ap (λ s. s.left) c.self.view_is) c.deref-2.ensures.value
-    c.copy_from_slice.ensures.after c.min.ensures c.min-count.ensures c.self.invariant.1
+    c.copy_from_slice.ensures.after c.min.ensures c.min-count.ensures c.self.invariant.1 in
+    (record { consumed = split.0; kept = ap (λ s. s.faults) c.self.view_is }, split.1)

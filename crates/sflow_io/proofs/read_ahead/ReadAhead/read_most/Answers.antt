@@ -1,6 +1,6 @@
-use Rattle.std.proofs.Common.{rules, sym, subst, ◌∙◌}
-use Rattle.std.specs.Io.KnownBytes.{Consumes}
-use Rattle.std.proofs.KnownBytes.{Consumes-trans}
+use Rattle.std.proofs.Common.{rules, sym, subst}
+use Rattle.sflow_io.specs.Seen.{Gives}
+use Rattle.sflow_io.proofs.Prefixes.{gives-trans}
 use Rattle.sflow_io.proofs.Rooms.{take-filled}
 use Rattle.sflow_io.proofs.read_ahead.ReadAhead.read_most.Goals as goal
 
@@ -12,6 +12,5 @@ loop-filled-preserved g c =
     take-filled c.loop-filled.filled _ c.in_ok-count.count c.loop-filled.room _ before.within read.bound.0 in
     record {
       within = search rules;
-      moved = subst (Consumes _ _) (sym joined) (Consumes-trans _ _ _ _ _ before.moved read.bytes.0);
-      faultless = read.cause.kept ∙ before.faultless;
+      given = subst (Gives _ _) (sym joined) (gives-trans _ _ _ _ _ before.given read.reads.0);
     }

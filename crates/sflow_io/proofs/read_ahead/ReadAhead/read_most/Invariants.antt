@@ -1,14 +1,13 @@
 -- The front of the room is what was read so far, and no call has failed.
-use Rattle.std.proofs.Common.{◌≡◌, ◌≤◌, ◌-◌, length, take}
-use Rattle.std.specs.Io.KnownBytes.{Consumes, prepend_known}
+use Rattle.std.proofs.Common.{◌≤◌, ◌-◌, length, take}
+use Rattle.sflow_io.specs.Seen.{Gives, with_held}
 use Rattle.sflow_io.proofs.read_ahead.ReadAhead.read_most.Given as goal
 
 abbrev pub invariant-loop-filled : goal.invariant-loop-filled
 invariant-loop-filled g l = record {
   within : l.filled ≤ length l.room;
-  moved : Consumes (prepend_known l.initial.self (g.S.Source.left l.initial.source))
-      (prepend_known l.self (g.S.Source.left l.source)) (take l.filled l.room);
-  faultless : g.S.Source.faults l.source ≡ g.S.Source.faults l.initial.source;
+  given : Gives (with_held l.initial.self (g.S.Source.seen l.initial.source))
+      (with_held l.self (g.S.Source.seen l.source)) (take l.filled l.room);
 }
 
 abbrev pub decreases-loop-filled : goal.decreases-loop-filled

@@ -6,6 +6,5 @@ use Rattle.text_lines.proofs.page.Page.put_line.Given as goal
 
 abbrev pub invariant-loop-piece : goal.invariant-loop-piece
 invariant-loop-piece g l =
-    ((done : List ℕ) × (pieces_text l.pieces ≡ done ++ pieces_text (drop l.piece-index l.pieces))
-    × Puts (g.K.Sink.taken l.initial.sink) (g.K.Sink.taken l.sink) l.initial.self l.self done)
-    × (g.K.Sink.faults l.sink ≡ g.K.Sink.faults l.initial.sink)
+    (done : List ℕ) × (pieces_text l.pieces ≡ done ++ pieces_text (drop l.piece-index l.pieces))
+    × Puts (g.K.Sink.seen l.initial.sink) (g.K.Sink.seen l.sink) l.initial.self l.self done

@@ -4,20 +4,20 @@ use Rattle.text_lines.proofs.PageLaws.{puts_none, puts_both, puts_fails, prints_
 use Rattle.text_lines.proofs.page.Page.put_pairs.Goals as goal
 
 pub loop-byte-init : goal.loop-byte-init
-loop-byte-init g c = (([], refl, puts_none _ _), refl)
+loop-byte-init g c = ([], refl, puts_none _ _)
 
 pub loop-byte-preserved : goal.loop-byte-preserved
 loop-byte-preserved g c =
     let before = c.loop-byte.invariant in
     let put = c.in_ok-put.ensures in
     let next = texts-drop hex_byte c.args.bytes.now c.loop-byte.byte-index 0 c.loop-byte-test.true in
-    let whole = before.0.1 ∙ ap (λ l. before.0.0 ++ l) next ∙ sym (append_assoc before.0.0 _ _) in
-    ((_, whole, puts_both _ _ _ _ _ _ _ _ before.0.2 (rw c.pair.ensures at put.prints)), put.cause.kept ∙ before.1)
+    let whole = before.1 ∙ ap (λ l. before.0 ++ l) next ∙ sym (append_assoc before.0 _ _) in
+    (_, whole, puts_both _ _ _ _ _ _ _ _ before.2 (rw c.pair.ensures at put))
 
-pub returns-in_err-put-clause-prints : goal.returns-in_err-put-clause-prints
-returns-in_err-put-clause-prints g c =
+pub returns-in_err-put : goal.returns-in_err-put
+returns-in_err-put g c =
     let before = c.loop-byte.invariant in
     let next = texts-drop hex_byte c.args.bytes.now c.loop-byte.byte-index 0 c.loop-byte-test.true in
-    let whole = before.0.1 ∙ ap (λ l. before.0.0 ++ l) next in
+    let whole = before.1 ∙ ap (λ l. before.0 ++ l) next in
     prints_err _ _ _ _ _ _ _ c.from_residual.ensures.1
-    (puts_fails _ _ _ _ _ _ _ _ _ whole before.0.2 (rw c.pair.ensures at c.in_err-put.ensures.prints))
+    (puts_fails _ _ _ _ _ _ _ _ _ whole before.2 (rw c.pair.ensures at c.in_err-put.ensures))

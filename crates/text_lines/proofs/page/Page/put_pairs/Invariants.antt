@@ -6,6 +6,5 @@ use Rattle.text_lines.proofs.page.Page.put_pairs.Given as goal
 
 abbrev pub invariant-loop-byte : goal.invariant-loop-byte
 invariant-loop-byte g l =
-    ((done : List ℕ) × (hex l.bytes ≡ done ++ hex (drop l.byte-index l.bytes))
-    × Puts (g.K.Sink.taken l.initial.sink) (g.K.Sink.taken l.sink) l.initial.self l.self done)
-    × (g.K.Sink.faults l.sink ≡ g.K.Sink.faults l.initial.sink)
+    (done : List ℕ) × (hex l.bytes ≡ done ++ hex (drop l.byte-index l.bytes))
+    × Puts (g.K.Sink.seen l.initial.sink) (g.K.Sink.seen l.sink) l.initial.self l.self done
