@@ -47,7 +47,7 @@ impl<'a> AsPath<'a> {
         AsPath::cut(bytes, count)
     }
 
-    // These segments by the definition of segments that are read one after the other.
+    // The segments that these bytes are, as the definition reads them one after the other.
     #[inline(always)]
     fn cut(bytes: &'a [u8], count: u32) -> Result<AsPath<'a>, Fault>
         requires { length bytes.now ≤ 65535 }
@@ -75,7 +75,7 @@ impl<'a> AsPath<'a> {
         AsPath::take_counted(cursor)
     }
 
-    // The same by the definition of segments that are read one after the other.
+    // A count word and that many segments, as the definition reads them one after the other.
     fn take_counted(cursor: &mut Cursor<'a>) -> Result<AsPath<'a>, Fault>
         ensures { Reads (λ p. p) (λ f. f) cursor.old cursor.new result (path_at (remaining cursor.old)) }
     {
@@ -125,7 +125,7 @@ impl<'a> AsPath<'a> {
         }
     }
 
-    /// The same segments once more.
+    /// These segments once more.
     pub fn fork(&self) -> AsPath<'a>
         ensures { result ≡ self.now }
     {

@@ -50,7 +50,7 @@ impl<'a> Words<'a> {
         Words::take_counted(cursor)
     }
 
-    // The same by the definition of words that are read one after the other.
+    // A count word and that many words, as the definition reads them one after the other.
     fn take_counted(cursor: &mut Cursor<'a>) -> Result<Words<'a>, Fault>
         ensures { Reads (λ w. w) (λ f. f) cursor.old cursor.new result (numbers_at (remaining cursor.old)) }
     {
@@ -99,7 +99,7 @@ impl<'a> Words<'a> {
         Some(word_of(self.bytes, place as usize))
     }
 
-    /// The same words once more.
+    /// These words once more.
     pub fn fork(&self) -> Words<'a>
         ensures { result ≡ self.now }
     {

@@ -37,7 +37,7 @@ impl Address {
         Address::take(cursor, at)
     }
 
-    // The same for a cursor at this place.
+    // The address at this place, where the cursor stands.
     fn take(cursor: &mut Cursor<'_>, at: usize) -> Result<Address, Fault>
         requires { at ≡ cursor.old.at }
         ensures { Reads (λ a. address_tree (address_of a)) (λ f. f) cursor.old cursor.new result

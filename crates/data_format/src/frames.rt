@@ -61,7 +61,7 @@ impl<'a> Frames<'a> {
         Frames::take(cursor, pad, check)
     }
 
-    // The same by the definition of frames that are read one after the other.
+    // A count word and that many frames, as the definition reads them one after the other.
     fn take<C: BodyCheck>(cursor: &mut Cursor<'a>, pad: Pad, check: &C) -> Result<Frames<'a>, Fault>
         requires { pad ≡ cursor.old.pad }
         ensures { Reads (λ f. f) (λ f. f) cursor.old cursor.new result
@@ -97,7 +97,7 @@ impl<'a> Frames<'a> {
         self.count
     }
 
-    /// The same frames once more.
+    /// These frames once more.
     #[inline(always)]
     pub fn fork(&self) -> Frames<'a>
         ensures { result ≡ self.now }

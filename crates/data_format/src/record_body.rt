@@ -1,4 +1,4 @@
-ghost use Rattle.std.specs.Prelude.{◌≡◌, ◌+◌, ◌<◌, ◌^◌, List, ℕ, length, IfOk, IfErr};
+ghost use Rattle.std.specs.Prelude.{◌≡◌, ◌+◌, ◌<◌, ◌≤◌, ◌^◌, List, ℕ, length, IfOk, IfErr};
 ghost use Rattle.wire_spec.specs.Bytes.{AreBytes};
 ghost use Rattle.wire_spec.specs.Fails.{Fails};
 ghost use Rattle.wire_spec.specs.Shapes.{Shape};
@@ -23,11 +23,11 @@ pub trait RecordBody<'a>: Sized + Drop {
     /// The value of its fields, and its tail.
     ghost content: { Self → Content };
 
-    /// Each of its slices has at most 65,535 bytes.
-    ghost is_short: { Self → Type 0 };
+    /// Each of its slices other than the tail has at most 65,535 bytes. Most records have none.
+    ghost are_short: { Self → Type 0 } = { λ _. Unit {0} };
 
-    /// Where in the body its slices stand, other than the tail.
-    ghost has_slices: { List ℕ → Self → Type 0 };
+    /// Where in the body these slices stand.
+    ghost has_slices: { List ℕ → Self → Type 0 } = { λ _ _. Unit {0} };
 
     /// The record in the bytes of a body, the first of which stands at this place; `pad` is how padding is read. The
     /// place behind them is below 2^32.
@@ -39,12 +39,14 @@ pub trait RecordBody<'a>: Sized + Drop {
 
     /// The length of its body in bytes.
     fn length(&self) -> usize
-        requires { is_short self.now }
+        requires slices { are_short self.now }
+        requires tail { length ((content self.now).1) ≤ 65535 }
         ensures { result ≡ length (record_bytes (content self.now)) };
 
     /// Its body, whole or not at all.
     fn put(&self, out: &mut Out<'_>) -> Result<(), OutFull>
-        requires { is_short self.now }
+        requires slices { are_short self.now }
+        requires tail { length ((content self.now).1) ≤ 65535 }
         ensures written { Puts out.old out.new result (record_bytes (content self.now)) }
         ensures lawful { IsLawful shape (content self.now).0 };
 
@@ -69,7 +71,8 @@ pub trait RecordBody<'a>: Sized + Drop {
     /// Its body, whole or not at all.
     #[inline(always)]
     final fn write(&self, out: &mut Out<'_>) -> Result<(), OutFull>
-        requires { is_short self.now }
+        requires slices { are_short self.now }
+        requires tail { length ((content self.now).1) ≤ 65535 }
         ensures written { Puts out.old out.new result (record_bytes (content self.now)) }
 
         // Wherever this body stands and however padding is read, the record is read from it again.

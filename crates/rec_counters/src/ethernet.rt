@@ -41,17 +41,9 @@ pub struct EthernetCounters<'a> {
 }
 
 impl<'a> RecordBody<'a> for EthernetCounters<'a> {
-    ghost use Rattle.std.specs.Prelude.{◌≤◌, length};
-    ghost use Rattle.wire_spec.specs.Tables.{ethernet_counters};
-    ghost use Rattle.rec_counters.specs.Contents.{ethernet_content};
-
     ghost shape = { ethernet_counters };
 
     ghost content = { ethernet_content };
-
-    ghost is_short = { λ r. length r.tail.now ≤ 65535 };
-
-    ghost has_slices = { λ _ _. Unit {0} };
 
     fn within(body: &'a [u8], at: usize, pad: Pad) -> Result<EthernetCounters<'a>, Fault> {
         let mut cursor = Cursor::within(body, pad, at);

@@ -53,17 +53,9 @@ pub struct IfCounters<'a> {
 }
 
 impl<'a> RecordBody<'a> for IfCounters<'a> {
-    ghost use Rattle.std.specs.Prelude.{◌≤◌, length};
-    ghost use Rattle.wire_spec.specs.Tables.{interface_counters};
-    ghost use Rattle.rec_counters.specs.Contents.{interface_content};
-
     ghost shape = { interface_counters };
 
     ghost content = { interface_content };
-
-    ghost is_short = { λ r. length r.tail.now ≤ 65535 };
-
-    ghost has_slices = { λ _ _. Unit {0} };
 
     fn within(body: &'a [u8], at: usize, pad: Pad) -> Result<IfCounters<'a>, Fault> {
         let mut cursor = Cursor::within(body, pad, at);

@@ -27,17 +27,9 @@ pub struct VlanCounters<'a> {
 }
 
 impl<'a> RecordBody<'a> for VlanCounters<'a> {
-    ghost use Rattle.std.specs.Prelude.{◌≤◌, length};
-    ghost use Rattle.wire_spec.specs.Tables.{vlan_counters};
-    ghost use Rattle.rec_counters.specs.Contents.{vlan_content};
-
     ghost shape = { vlan_counters };
 
     ghost content = { vlan_content };
-
-    ghost is_short = { λ r. length r.tail.now ≤ 65535 };
-
-    ghost has_slices = { λ _ _. Unit {0} };
 
     fn within(body: &'a [u8], at: usize, pad: Pad) -> Result<VlanCounters<'a>, Fault> {
         let mut cursor = Cursor::within(body, pad, at);

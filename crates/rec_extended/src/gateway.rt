@@ -3,7 +3,7 @@ ghost use Rattle.wire_spec.specs.Bytes.{AreBytes};
 ghost use Rattle.wire_spec.specs.Tables.{extended_gateway};
 ghost use Rattle.xdr_words.specs.Readers.{Gives};
 ghost use Rattle.data_format.specs.Records.{AreFieldsOf, record_reading};
-ghost use Rattle.rec_extended.specs.RouteContents.{gateway_content, gateway_parts, path_of, communities_of, AreShortLists};
+ghost use Rattle.rec_extended.specs.RouteContents.{gateway_content, gateway_parts, path_of, communities_of, AreShortLists, HasLists};
 
 use crate::address_parts::address_parts;
 use crate::{AsPath, Words};
@@ -46,15 +46,11 @@ pub struct GatewayRec<'a> {
 }
 
 impl<'a> RecordBody<'a> for GatewayRec<'a> {
-    ghost use Rattle.std.specs.Prelude.{◌≤◌, length};
-    ghost use Rattle.wire_spec.specs.Tables.{extended_gateway};
-    ghost use Rattle.rec_extended.specs.RouteContents.{gateway_content, AreShortLists, HasLists};
-
     ghost shape = { extended_gateway };
 
     ghost content = { gateway_content };
 
-    ghost is_short = { λ r. AreShortLists r × (length r.tail.now ≤ 65535) };
+    ghost are_short = { AreShortLists };
 
     ghost has_slices = { HasLists };
 

@@ -21,17 +21,9 @@ pub struct RouterRec<'a> {
 }
 
 impl<'a> RecordBody<'a> for RouterRec<'a> {
-    ghost use Rattle.std.specs.Prelude.{◌≤◌, length};
-    ghost use Rattle.wire_spec.specs.Tables.{extended_router};
-    ghost use Rattle.rec_extended.specs.RouteContents.{router_content};
-
     ghost shape = { extended_router };
 
     ghost content = { router_content };
-
-    ghost is_short = { λ r. length r.tail.now ≤ 65535 };
-
-    ghost has_slices = { λ _ _. Unit {0} };
 
     #[inline(always)]
     fn within(body: &'a [u8], at: usize, pad: Pad) -> Result<RouterRec<'a>, Fault> {

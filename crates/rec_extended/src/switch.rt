@@ -22,17 +22,9 @@ pub struct SwitchRec<'a> {
 }
 
 impl<'a> RecordBody<'a> for SwitchRec<'a> {
-    ghost use Rattle.std.specs.Prelude.{◌≤◌, length};
-    ghost use Rattle.wire_spec.specs.Tables.{extended_switch};
-    ghost use Rattle.rec_extended.specs.Contents.{switch_content};
-
     ghost shape = { extended_switch };
 
     ghost content = { switch_content };
-
-    ghost is_short = { λ r. length r.tail.now ≤ 65535 };
-
-    ghost has_slices = { λ _ _. Unit {0} };
 
     #[inline(always)]
     fn within(body: &'a [u8], at: usize, pad: Pad) -> Result<SwitchRec<'a>, Fault> {

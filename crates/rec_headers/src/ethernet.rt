@@ -24,17 +24,9 @@ pub struct EthernetRec<'a> {
 }
 
 impl<'a> RecordBody<'a> for EthernetRec<'a> {
-    ghost use Rattle.std.specs.Prelude.{◌≤◌, length};
-    ghost use Rattle.wire_spec.specs.Tables.{ethernet_frame};
-    ghost use Rattle.rec_headers.specs.Contents.{ethernet_content};
-
     ghost shape = { ethernet_frame };
 
     ghost content = { ethernet_content };
-
-    ghost is_short = { λ r. length r.tail.now ≤ 65535 };
-
-    ghost has_slices = { λ _ _. Unit {0} };
 
     #[inline(always)]
     fn within(body: &'a [u8], at: usize, pad: Pad) -> Result<EthernetRec<'a>, Fault> {

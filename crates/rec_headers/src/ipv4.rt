@@ -31,17 +31,9 @@ pub struct Ipv4Rec<'a> {
 }
 
 impl<'a> RecordBody<'a> for Ipv4Rec<'a> {
-    ghost use Rattle.std.specs.Prelude.{◌≤◌, length};
-    ghost use Rattle.wire_spec.specs.Tables.{ipv4_header};
-    ghost use Rattle.rec_headers.specs.Contents.{ipv4_content};
-
     ghost shape = { ipv4_header };
 
     ghost content = { ipv4_content };
-
-    ghost is_short = { λ r. length r.tail.now ≤ 65535 };
-
-    ghost has_slices = { λ _ _. Unit {0} };
 
     #[inline(always)]
     fn within(body: &'a [u8], at: usize, pad: Pad) -> Result<Ipv4Rec<'a>, Fault> {

@@ -1,5 +1,6 @@
 ghost use Rattle.std.specs.Prelude.{◌≤◌, length};
 ghost use Rattle.wire_spec.specs.Tables.{raw_header};
+ghost use Rattle.data_format.specs.Ranges.{IsRange};
 ghost use Rattle.data_format.specs.Records.{AreFieldsOf};
 ghost use Rattle.rec_headers.specs.Contents.{raw_content};
 
@@ -23,16 +24,11 @@ pub struct RawHeader<'a> {
 }
 
 impl<'a> RecordBody<'a> for RawHeader<'a> {
-    ghost use Rattle.std.specs.Prelude.{◌≤◌, length};
-    ghost use Rattle.wire_spec.specs.Tables.{raw_header};
-    ghost use Rattle.data_format.specs.Ranges.{IsRange};
-    ghost use Rattle.rec_headers.specs.Contents.{raw_content};
-
     ghost shape = { raw_header };
 
     ghost content = { raw_content };
 
-    ghost is_short = { λ r. (length r.header.now ≤ 65535) × (length r.tail.now ≤ 65535) };
+    ghost are_short = { λ r. length r.header.now ≤ 65535 };
 
     ghost has_slices = { λ body r. IsRange body 16 r.header.now };
 
