@@ -8,12 +8,11 @@ use Rattle.xdr_words.specs.declared.writer.Out.{Out}
 use Rattle.xdr_words.specs.declared.writer.OutFull.{OutFull}
 use Rattle.xdr_words.specs.Written.{room_left, Appends, Puts}
 use Rattle.datagram_core.specs.declared.records.Record.{Record}
-use Rattle.datagram_core.specs.declared.records.Record.TheVariants as records
 use Rattle.datagram_core.specs.declared.records.RecordKind.{RecordKind}
-use Rattle.datagram_core.specs.declared.records.RecordKind.TheVariants as kinds
-use Rattle.datagram_core.specs.Records.{record_tree}
-use Rattle.datagram_core.specs.Kinds.{HasKind}
-use Rattle.datagram_core.specs.Written.{record_format, record_body, FormatFits}
+use Rattle.datagram_core.specs.Descriptions.{Description, Read, Kept, described, format_in, body_in}
+use Rattle.datagram_core.specs.Records.{tree_in, record_tree}
+use Rattle.datagram_core.specs.Kinds.{IsOfKind, HasKind}
+use Rattle.datagram_core.specs.Written.{record_format, record_body, FormatFitsIn, FormatFits}
 use Rattle.datagram_core.proofs.Puts.{last_of_four}
 
 -- format, length, body and padding
@@ -21,18 +20,12 @@ abbrev pub frame_bytes : ℕ → List ℕ → List ℕ
 frame_bytes k body =
     to_be_bytes w32 k ++ to_be_bytes w32 (length body) ++ body ++ replicate (padding_of (length body)) 0
 
+spelling_in : (d : Description) → spell (tree_in d) ≡ frame_bytes (format_in d) (body_in d)
+spelling_in (Read kind k x) = refl
+spelling_in (Kept frame) = refl
+
 pub record_spelling : (r : Record) → spell (record_tree r) ≡ frame_bytes (record_format r) (record_body r)
-record_spelling (records.RawHeader r) = refl
-record_spelling (records.Ethernet r) = refl
-record_spelling (records.Ipv4 r) = refl
-record_spelling (records.Ipv6 r) = refl
-record_spelling (records.Switch r) = refl
-record_spelling (records.Router r) = refl
-record_spelling (records.Gateway r) = refl
-record_spelling (records.IfCounters r) = refl
-record_spelling (records.EthernetCounters r) = refl
-record_spelling (records.VlanCounters r) = refl
-record_spelling (records.Other frame) = refl
+record_spelling r = spelling_in (described r)
 
 pub frame_size : (r : Record) → length (spell (record_tree r))
     ≡ 8 + length (record_body r) + padding_of (length (record_body r))
@@ -59,17 +52,9 @@ frame_written item size a b c d e r same fits one two three four =
     (replicate (padding_of (length body)) 0) r one (subst Second same two) three (subst Last same four)
     (subst Fit spelling fits))
 
+format_fits_in : (kind : RecordKind) (d : Description) → IsOfKind kind d → FormatFitsIn d
+format_fits_in kind (Read k n x) h = tt
+format_fits_in kind (Kept frame) h = h.0
+
 pub format_fits : (kind : RecordKind) (r : Record) → HasKind kind r → FormatFits r
-format_fits kind (records.RawHeader r) h = tt
-format_fits kind (records.Ethernet r) h = tt
-format_fits kind (records.Ipv4 r) h = tt
-format_fits kind (records.Ipv6 r) h = tt
-format_fits kind (records.Switch r) h = tt
-format_fits kind (records.Router r) h = tt
-format_fits kind (records.Gateway r) h = tt
-format_fits kind (records.IfCounters r) h = tt
-format_fits kind (records.EthernetCounters r) h = tt
-format_fits kind (records.VlanCounters r) h = tt
-format_fits kinds.Flow (records.Other frame) h = h.0
-format_fits kinds.Counters (records.Other frame) h = h.0
-format_fits kinds.Unknown (records.Other frame) h = h.0
+format_fits kind r h = format_fits_in kind (described r) h

@@ -8,23 +8,14 @@ use Rattle.data_format.specs.declared.format.Frame.{Frame}
 use Rattle.data_format.specs.Trees.{tree_or}
 use Rattle.data_format.specs.Views.{IsFormat, frame_view, body_of, format_word}
 use Rattle.datagram_core.specs.declared.records.Record.{Record}
-use Rattle.datagram_core.specs.declared.records.Record.TheVariants as records
 use Rattle.datagram_core.specs.declared.records.RecordKind.{RecordKind}
-use Rattle.datagram_core.specs.Records.{record_tree, table_of, IsRecordFrame, IsRecordOf, IsThisRecord, IsRecordFrom}
+use Rattle.datagram_core.specs.Descriptions.{Description, Read, Kept, described}
+use Rattle.datagram_core.specs.Records.{record_tree, table_of, IsFrameIn, IsRecordOf, IsThisIn, IsRecordFrom}
 
-itself : (frame : Frame) (r : Record) → IsFormat frame.format → frame.at + length frame.body.now < 2 ^ 32
-    → IsThisRecord frame r → IsRecordFrame (frame_view frame) r
-itself frame (records.RawHeader r) fits place this = tt
-itself frame (records.Ethernet r) fits place this = tt
-itself frame (records.Ipv4 r) fits place this = tt
-itself frame (records.Ipv6 r) fits place this = tt
-itself frame (records.Switch r) fits place this = tt
-itself frame (records.Router r) fits place this = tt
-itself frame (records.Gateway r) fits place this = tt
-itself frame (records.IfCounters r) fits place this = tt
-itself frame (records.EthernetCounters r) fits place this = tt
-itself frame (records.VlanCounters r) fits place this = tt
-itself frame (records.Other g) fits place this =
+itself : (frame : Frame) (d : Description) → IsFormat frame.format → frame.at + length frame.body.now < 2 ^ 32
+    → IsThisIn frame d → IsFrameIn (frame_view frame) d
+itself frame (Read kind k x) fits place this = tt
+itself frame (Kept g) fits place this =
     let P : Format → Type 0 = IsFormat in (this.1, subst P (sym this.0) fits, place)
 
 pub record_of_frame : (kind : RecordKind) (frame : Frame) (r : Record) → IsFormat frame.format
@@ -33,6 +24,6 @@ pub record_of_frame : (kind : RecordKind) (frame : Frame) (r : Record) → IsFor
     → IsRecordFrom frame r → IsRecordOf kind (frame_view frame) r
 record_of_frame kind frame r fits place read from = record {
   value = sym (ap (tree_or (other (format_word frame.format) frame.body.now)) read);
-  itself = itself frame r fits place from.itself;
+  itself = itself frame (described r) fits place from.itself;
   slices = from.slices;
 }

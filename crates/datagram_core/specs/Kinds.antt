@@ -1,22 +1,10 @@
 -- Which formats are read by their fields, and which records the samples of each kind have.
-use Rattle.std.specs.Prelude.{◌≢◌, ℕ}
+use Rattle.std.specs.Prelude.{◌≡◌, ◌≢◌, ℕ}
 use Rattle.data_format.specs.declared.heads.Form.{Form}
 use Rattle.data_format.specs.declared.heads.Form.TheVariants.{Compact, Expanded}
 use Rattle.data_format.specs.Views.{IsFormat, format_word}
 use Rattle.datagram_core.specs.declared.records.Record.{Record}
-use Rattle.datagram_core.specs.declared.records.Record.TheVariants.{
-  RawHeader,
-  Ethernet,
-  Ipv4,
-  Ipv6,
-  Switch,
-  Router,
-  Gateway,
-  IfCounters,
-  EthernetCounters,
-  VlanCounters,
-  Other,
-}
+use Rattle.datagram_core.specs.Descriptions.{Description, Read, Kept, described}
 use Rattle.datagram_core.specs.declared.records.RecordKind.{RecordKind}
 use Rattle.datagram_core.specs.declared.records.RecordKind.TheVariants as kinds
 use Rattle.datagram_core.specs.declared.sample.Sample.{Sample}
@@ -46,17 +34,10 @@ abbrev pub IsUnreadOther : Sample → Type 0
 IsUnreadOther (samples.Other frame) = IsUnreadSample (format_word frame.format)
 IsUnreadOther _ = Unit {0}
 
--- samples of this kind have the record
+-- samples of this kind have such a record
+abbrev pub IsOfKind : RecordKind → Description → Type 0
+IsOfKind kind (Read k n x) = k ≡ kind
+IsOfKind kind (Kept frame) = IsFormat frame.format × IsUnread kind (format_word frame.format)
+
 abbrev pub HasKind : RecordKind → Record → Type 0
-HasKind kinds.Flow (RawHeader r) = Unit {0}
-HasKind kinds.Flow (Ethernet r) = Unit {0}
-HasKind kinds.Flow (Ipv4 r) = Unit {0}
-HasKind kinds.Flow (Ipv6 r) = Unit {0}
-HasKind kinds.Flow (Switch r) = Unit {0}
-HasKind kinds.Flow (Router r) = Unit {0}
-HasKind kinds.Flow (Gateway r) = Unit {0}
-HasKind kinds.Counters (IfCounters r) = Unit {0}
-HasKind kinds.Counters (EthernetCounters r) = Unit {0}
-HasKind kinds.Counters (VlanCounters r) = Unit {0}
-HasKind kind (Other frame) = IsFormat frame.format × IsUnread kind (format_word frame.format)
-HasKind kind _ = ⊥
+HasKind kind r = IsOfKind kind (described r)

@@ -4,6 +4,7 @@ pub mod Trees
 pub mod Kinds
 pub mod Samples
 pub mod SampleHeads
+pub mod Descriptions
 pub mod Records
 pub mod Ranges
 pub mod Parts

@@ -6,10 +6,8 @@ use Rattle.data_format.specs.Ranges.{IsRange, EndsWith}
 use Rattle.data_format.specs.Records.{Content}
 use Rattle.data_format.specs.Trees.{frame_tree}
 use Rattle.data_format.specs.Views.{IsFormat, FrameView, frame_view, format_word}
-use Rattle.rec_headers.specs.Contents as headers
-use Rattle.rec_extended.specs.Contents as switches
 use Rattle.rec_extended.specs.RouteContents as routes
-use Rattle.rec_counters.specs.Contents as counters
+use Rattle.datagram_core.specs.Descriptions.{Description, Read, Kept, described}
 use Rattle.datagram_core.specs.Tables.{flow_records_read, counter_records_read}
 use Rattle.datagram_core.specs.declared.records.Record.{Record}
 use Rattle.datagram_core.specs.declared.records.Record.TheVariants.{
@@ -60,18 +58,12 @@ abbrev pub as_known : ℕ → Content → Tree
 as_known k x = known k x.0 x.1
 
 -- the value of a record: its format, its fields and its tail; or the bytes of the body
+abbrev pub tree_in : Description → Tree
+tree_in (Read kind k x) = as_known k x
+tree_in (Kept frame) = other (format_word frame.format) frame.body.now
+
 abbrev pub record_tree : Record → Tree
-record_tree (RawHeader r) = as_known 1 (headers.raw_content r)
-record_tree (Ethernet r) = as_known 2 (headers.ethernet_content r)
-record_tree (Ipv4 r) = as_known 3 (headers.ipv4_content r)
-record_tree (Ipv6 r) = as_known 4 (headers.ipv6_content r)
-record_tree (Switch r) = as_known 1001 (switches.switch_content r)
-record_tree (Router r) = as_known 1002 (routes.router_content r)
-record_tree (Gateway r) = as_known 1003 (routes.gateway_content r)
-record_tree (IfCounters r) = as_known 1 (counters.interface_content r)
-record_tree (EthernetCounters r) = as_known 2 (counters.ethernet_content r)
-record_tree (VlanCounters r) = as_known 5 (counters.vlan_content r)
-record_tree (Other frame) = other (format_word frame.format) frame.body.now
+record_tree r = tree_in (described r)
 
 -- The header of a packet stands behind four words, the lists of a gateway within the body, and the tail is its rest; a
 -- record whose format isn't read has the whole body.
@@ -90,9 +82,12 @@ HasSlices body (Other frame) = frame.body.now ≡ body
 
 -- a record whose format isn't read is the frame itself; the format is that of a word, and the place behind the body
 -- is below 2^32
+abbrev pub IsFrameIn : FrameView → Description → Type 0
+IsFrameIn f (Read kind k x) = Unit {0}
+IsFrameIn f (Kept frame) = (frame_view frame ≡ f) × IsFormat frame.format × (f.at + length f.body < 2 ^ 32)
+
 abbrev pub IsRecordFrame : FrameView → Record → Type 0
-IsRecordFrame f (Other frame) = (frame_view frame ≡ f) × IsFormat frame.format × (f.at + length f.body < 2 ^ 32)
-IsRecordFrame f _ = Unit {0}
+IsRecordFrame f r = IsFrameIn f (described r)
 
 -- the record of this kind in a frame
 pub record IsRecordOf (kind : RecordKind) (f : FrameView) (r : Record) : Type 0 where
@@ -106,9 +101,12 @@ pub record IsRecordOf (kind : RecordKind) (f : FrameView) (r : Record) : Type 0 
 -- ---- while a frame is read
 
 -- a record whose format isn't read is this frame
+abbrev pub IsThisIn : Frame → Description → Type 0
+IsThisIn frame (Read kind k x) = Unit {0}
+IsThisIn frame (Kept g) = (g.format ≡ frame.format) × (frame_view g ≡ frame_view frame)
+
 abbrev pub IsThisRecord : Frame → Record → Type 0
-IsThisRecord frame (Other g) = (g.format ≡ frame.format) × (frame_view g ≡ frame_view frame)
-IsThisRecord frame _ = Unit {0}
+IsThisRecord frame r = IsThisIn frame (described r)
 
 -- what of the above is so under each reading of padding
 pub record IsRecordFrom (frame : Frame) (r : Record) : Type 0 where

@@ -8,15 +8,11 @@ use Rattle.data_format.specs.declared.heads.Form.{Form}
 use Rattle.data_format.specs.declared.heads.FlowHead.{FlowHead}
 use Rattle.data_format.specs.declared.heads.CountersHead.{CountersHead}
 use Rattle.data_format.specs.Samples.{flow_trees, counters_trees}
-use Rattle.data_format.specs.Views.{IsFormat, format_word}
-use Rattle.data_format.specs.Records.{record_bytes}
-use Rattle.rec_headers.specs.Contents as headers
-use Rattle.rec_extended.specs.Contents as switches
-use Rattle.rec_extended.specs.RouteContents as routes
+use Rattle.data_format.specs.Views.{IsFormat}
 use Rattle.rec_extended.specs.RouteContents.{path_of, communities_of}
-use Rattle.rec_counters.specs.Contents as counters
 use Rattle.as_paths.specs.WordLists.{word_trees}
 use Rattle.as_paths.specs.Paths.{segment_trees}
+use Rattle.datagram_core.specs.Descriptions.{Description, Read, Kept, described, format_in, body_in}
 use Rattle.datagram_core.specs.Kinds.{flow_format, counters_format}
 use Rattle.datagram_core.specs.declared.records.Record.{Record}
 use Rattle.datagram_core.specs.declared.records.Record.TheVariants.{
@@ -106,34 +102,17 @@ SlicesFit (VlanCounters r) = length r.tail.now ≤ 65535
 SlicesFit (Other frame) = length frame.body.now ≤ 65535
 
 -- the format of a record that isn't read is that of a word
+abbrev pub FormatFitsIn : Description → Type 0
+FormatFitsIn (Read kind k x) = Unit {0}
+FormatFitsIn (Kept frame) = IsFormat frame.format
+
 abbrev pub FormatFits : Record → Type 0
-FormatFits (Other frame) = IsFormat frame.format
-FormatFits _ = Unit {0}
+FormatFits r = FormatFitsIn (described r)
 
 -- the word of its format
 abbrev pub record_format : Record → ℕ
-record_format (RawHeader r) = 1
-record_format (Ethernet r) = 2
-record_format (Ipv4 r) = 3
-record_format (Ipv6 r) = 4
-record_format (Switch r) = 1001
-record_format (Router r) = 1002
-record_format (Gateway r) = 1003
-record_format (IfCounters r) = 1
-record_format (EthernetCounters r) = 2
-record_format (VlanCounters r) = 5
-record_format (Other frame) = format_word frame.format
+record_format r = format_in (described r)
 
 -- the bytes of its body
 abbrev pub record_body : Record → List ℕ
-record_body (RawHeader r) = record_bytes (headers.raw_content r)
-record_body (Ethernet r) = record_bytes (headers.ethernet_content r)
-record_body (Ipv4 r) = record_bytes (headers.ipv4_content r)
-record_body (Ipv6 r) = record_bytes (headers.ipv6_content r)
-record_body (Switch r) = record_bytes (switches.switch_content r)
-record_body (Router r) = record_bytes (routes.router_content r)
-record_body (Gateway r) = record_bytes (routes.gateway_content r)
-record_body (IfCounters r) = record_bytes (counters.interface_content r)
-record_body (EthernetCounters r) = record_bytes (counters.ethernet_content r)
-record_body (VlanCounters r) = record_bytes (counters.vlan_content r)
-record_body (Other frame) = frame.body.now
+record_body r = body_in (described r)

@@ -10,26 +10,35 @@ use crate::Record;
 use crate::writer_parts::{address_length, size_of_array};
 use xdr_words::{Out, OutFull};
 
+// What is done with a record, by its variant: the number of its format, of enterprise 0, and the record. The last arm is
+// that of a record whose format isn't read. The lengths that aren't used tell how long the arrays of a record are.
+macro_rules! on_record {
+    ($item:expr, ($number:ident, $found:ident) => $read:expr, $frame:ident => $kept:expr) => {
+        match $item {
+            Record::RawHeader($found) => { let $number = 1; $read }
+            Record::Ethernet($found) => { let $number = 2; let _ = size_of_array(&$found.src_mac.0) + size_of_array(&$found.dst_mac.0); $read }
+            Record::Ipv4($found) => { let $number = 3; let _ = size_of_array(&$found.src) + size_of_array(&$found.dst); $read }
+            Record::Ipv6($found) => { let $number = 4; let _ = size_of_array(&$found.src) + size_of_array(&$found.dst); $read }
+            Record::Switch($found) => { let $number = 1001; $read }
+            Record::Router($found) => { let $number = 1002; let _ = address_length(&$found.nexthop); $read }
+            Record::Gateway($found) => { let $number = 1003; let _ = address_length(&$found.nexthop); $read }
+            Record::IfCounters($found) => { let $number = 1; $read }
+            Record::EthernetCounters($found) => { let $number = 2; $read }
+            Record::VlanCounters($found) => { let $number = 5; $read }
+            Record::Other($frame) => $kept,
+        }
+    };
+}
+
 /// The word of the format of a record.
 #[inline(always)]
 pub(crate) fn format_word_of(item: &Record<'_>) -> u32
     requires { FormatFits item.now }
     ensures { result ≡ record_format item.now }
 {
-    match item {
-        Record::RawHeader(_) | Record::IfCounters(_) => 1,
-        Record::Ethernet(_) | Record::EthernetCounters(_) => 2,
-        Record::Ipv4(_) => 3,
-        Record::Ipv6(_) => 4,
-        Record::VlanCounters(_) => 5,
-        Record::Switch(_) => 1001,
-        Record::Router(_) => 1002,
-        Record::Gateway(_) => 1003,
-        Record::Other(frame) => frame.format.to_word(),
-    }
+    on_record!(item, (number, _found) => number, frame => frame.format.to_word())
 }
 
-// The lengths that aren't used tell how long the arrays of a record are.
 /// How many bytes the body of a record has. Each of its slices has at most 65,535.
 #[inline(always)]
 pub(crate) fn body_length(item: &Record<'_>) -> usize
@@ -37,34 +46,7 @@ pub(crate) fn body_length(item: &Record<'_>) -> usize
     ensures exact { result ≡ length (record_body item.now) }
     ensures most { result ≤ 1000000 }
 {
-    match item {
-        Record::RawHeader(record) => record.length(),
-        Record::Ethernet(record) => {
-            let _ = size_of_array(&record.src_mac.0) + size_of_array(&record.dst_mac.0);
-            record.length()
-        }
-        Record::Ipv4(record) => {
-            let _ = size_of_array(&record.src) + size_of_array(&record.dst);
-            record.length()
-        }
-        Record::Ipv6(record) => {
-            let _ = size_of_array(&record.src) + size_of_array(&record.dst);
-            record.length()
-        }
-        Record::Switch(record) => record.length(),
-        Record::Router(record) => {
-            let _ = address_length(&record.nexthop);
-            record.length()
-        }
-        Record::Gateway(record) => {
-            let _ = address_length(&record.nexthop);
-            record.length()
-        }
-        Record::IfCounters(record) => record.length(),
-        Record::EthernetCounters(record) => record.length(),
-        Record::VlanCounters(record) => record.length(),
-        Record::Other(frame) => frame.body.len(),
-    }
+    on_record!(item, (_number, found) => found.length(), frame => frame.body.len())
 }
 
 /// How many bytes the frame of a record has, whose body has this size.
@@ -85,17 +67,5 @@ pub(crate) fn write_body(item: &Record<'_>, out: &mut Out<'_>) -> Result<(), Out
     requires { SlicesFit item.now }
     ensures { Puts out.old out.new result (record_body item.now) }
 {
-    match item {
-        Record::RawHeader(record) => record.write(out),
-        Record::Ethernet(record) => record.write(out),
-        Record::Ipv4(record) => record.write(out),
-        Record::Ipv6(record) => record.write(out),
-        Record::Switch(record) => record.write(out),
-        Record::Router(record) => record.write(out),
-        Record::Gateway(record) => record.write(out),
-        Record::IfCounters(record) => record.write(out),
-        Record::EthernetCounters(record) => record.write(out),
-        Record::VlanCounters(record) => record.write(out),
-        Record::Other(frame) => out.put_raw(frame.body),
-    }
+    on_record!(item, (_number, found) => found.write(out), frame => out.put_raw(frame.body))
 }

@@ -44,10 +44,10 @@ impl<'a> Sample<'a> {
             return Ok(Sample::Other(frame));
         }
         match frame.format.number {
-            1 => read_flow(frame, pad),
-            2 => read_counters(frame, pad),
-            3 => read_expanded_flow(frame, pad),
-            4 => read_expanded_counters(frame, pad),
+            1 => Ok(Sample::Flow(FlowSample::read(frame, pad, &RecordKind::Flow)?)),
+            2 => Ok(Sample::Counters(CountersSample::read(frame, pad, &RecordKind::Counters)?)),
+            3 => Ok(Sample::FlowX(FlowSampleX::read(frame, pad, &RecordKind::Flow)?)),
+            4 => Ok(Sample::CountersX(CountersSampleX::read(frame, pad, &RecordKind::Counters)?)),
             _ => Ok(Sample::Other(frame)),
         }
     }
@@ -66,54 +66,4 @@ impl<'a> Sample<'a> {
             Sample::Other(_) => Records::over(RecordKind::Unknown, Frames::none()),
         }
     }
-}
-
-// The sample in a frame of each format that is read, or the first fault in its body.
-
-#[inline(always)]
-fn read_flow<'a>(frame: Frame<'a>, pad: Pad) -> Result<Sample<'a>, Fault>
-    requires format { format_word frame.format ≡ 1 }
-    requires place { frame.at + length frame.body.now < 2 ^ 32 }
-    ensures exact { Gives sample_tree (λ f. f) result
-        (inside_at pad samples_read (format_word frame.entry.format) (body_of (frame_view frame.entry))) }
-    ensures from { IfOk result (λ s. IsFrom frame.entry s) }
-    ensures unread { IfOk result (λ s. IsUnreadOther s) }
-{
-    Ok(Sample::Flow(FlowSample::read(frame, pad, &RecordKind::Flow)?))
-}
-
-#[inline(always)]
-fn read_counters<'a>(frame: Frame<'a>, pad: Pad) -> Result<Sample<'a>, Fault>
-    requires format { format_word frame.format ≡ 2 }
-    requires place { frame.at + length frame.body.now < 2 ^ 32 }
-    ensures exact { Gives sample_tree (λ f. f) result
-        (inside_at pad samples_read (format_word frame.entry.format) (body_of (frame_view frame.entry))) }
-    ensures from { IfOk result (λ s. IsFrom frame.entry s) }
-    ensures unread { IfOk result (λ s. IsUnreadOther s) }
-{
-    Ok(Sample::Counters(CountersSample::read(frame, pad, &RecordKind::Counters)?))
-}
-
-#[inline(always)]
-fn read_expanded_flow<'a>(frame: Frame<'a>, pad: Pad) -> Result<Sample<'a>, Fault>
-    requires format { format_word frame.format ≡ 3 }
-    requires place { frame.at + length frame.body.now < 2 ^ 32 }
-    ensures exact { Gives sample_tree (λ f. f) result
-        (inside_at pad samples_read (format_word frame.entry.format) (body_of (frame_view frame.entry))) }
-    ensures from { IfOk result (λ s. IsFrom frame.entry s) }
-    ensures unread { IfOk result (λ s. IsUnreadOther s) }
-{
-    Ok(Sample::FlowX(FlowSampleX::read(frame, pad, &RecordKind::Flow)?))
-}
-
-#[inline(always)]
-fn read_expanded_counters<'a>(frame: Frame<'a>, pad: Pad) -> Result<Sample<'a>, Fault>
-    requires format { format_word frame.format ≡ 4 }
-    requires place { frame.at + length frame.body.now < 2 ^ 32 }
-    ensures exact { Gives sample_tree (λ f. f) result
-        (inside_at pad samples_read (format_word frame.entry.format) (body_of (frame_view frame.entry))) }
-    ensures from { IfOk result (λ s. IsFrom frame.entry s) }
-    ensures unread { IfOk result (λ s. IsUnreadOther s) }
-{
-    Ok(Sample::CountersX(CountersSampleX::read(frame, pad, &RecordKind::Counters)?))
 }

@@ -2,7 +2,7 @@
 ghost use Rattle.std.specs.Prelude.{◌≡◌, ◌+◌, ◌<◌, ◌^◌, length, Ok};
 ghost use Rattle.wire_spec.specs.declared.pad.Pad.TheVariants.{Any};
 ghost use Rattle.data_format.specs.Trees.{table_test};
-ghost use Rattle.data_format.specs.Views.{format_word, frame_view};
+ghost use Rattle.data_format.specs.Views.{frame_view};
 ghost use Rattle.datagram_core.specs.SampleHeads.{IsHeadOf};
 ghost use Rattle.datagram_core.specs.Tables.{samples_read};
 
@@ -33,65 +33,23 @@ impl SampleHead {
             return SampleHead::Other;
         }
         match frame.format.number {
-            1 => flow_head(frame),
-            2 => counters_head(frame),
-            3 => expanded_flow_head(frame),
-            4 => expanded_counters_head(frame),
+            1 => match FlowSample::read_head(frame) {
+                Ok(head) => SampleHead::Flow(head),
+                Err(_) => unreachable!(),
+            },
+            2 => match CountersSample::read_head(frame) {
+                Ok(head) => SampleHead::Counters(head),
+                Err(_) => unreachable!(),
+            },
+            3 => match FlowSampleX::read_head(frame) {
+                Ok(head) => SampleHead::Flow(head),
+                Err(_) => unreachable!(),
+            },
+            4 => match CountersSampleX::read_head(frame) {
+                Ok(head) => SampleHead::Counters(head),
+                Err(_) => unreachable!(),
+            },
             _ => SampleHead::Other,
         }
-    }
-}
-
-// The head in such a frame of each format that is read.
-
-#[inline(always)]
-fn flow_head(frame: Frame<'_>) -> SampleHead
-    requires format { format_word frame.format ≡ 1 }
-    requires place { frame.at + length frame.body.now < 2 ^ 32 }
-    requires passes { table_test Any samples_read (frame_view frame) ≡ Ok tt }
-    ensures { IsHeadOf (frame_view frame.entry) result }
-{
-    match FlowSample::read_head(frame) {
-        Ok(head) => SampleHead::Flow(head),
-        Err(_) => unreachable!(),
-    }
-}
-
-#[inline(always)]
-fn counters_head(frame: Frame<'_>) -> SampleHead
-    requires format { format_word frame.format ≡ 2 }
-    requires place { frame.at + length frame.body.now < 2 ^ 32 }
-    requires passes { table_test Any samples_read (frame_view frame) ≡ Ok tt }
-    ensures { IsHeadOf (frame_view frame.entry) result }
-{
-    match CountersSample::read_head(frame) {
-        Ok(head) => SampleHead::Counters(head),
-        Err(_) => unreachable!(),
-    }
-}
-
-#[inline(always)]
-fn expanded_flow_head(frame: Frame<'_>) -> SampleHead
-    requires format { format_word frame.format ≡ 3 }
-    requires place { frame.at + length frame.body.now < 2 ^ 32 }
-    requires passes { table_test Any samples_read (frame_view frame) ≡ Ok tt }
-    ensures { IsHeadOf (frame_view frame.entry) result }
-{
-    match FlowSampleX::read_head(frame) {
-        Ok(head) => SampleHead::Flow(head),
-        Err(_) => unreachable!(),
-    }
-}
-
-#[inline(always)]
-fn expanded_counters_head(frame: Frame<'_>) -> SampleHead
-    requires format { format_word frame.format ≡ 4 }
-    requires place { frame.at + length frame.body.now < 2 ^ 32 }
-    requires passes { table_test Any samples_read (frame_view frame) ≡ Ok tt }
-    ensures { IsHeadOf (frame_view frame.entry) result }
-{
-    match CountersSampleX::read_head(frame) {
-        Ok(head) => SampleHead::Counters(head),
-        Err(_) => unreachable!(),
     }
 }
