@@ -1,7 +1,7 @@
 // The text of bytes.
 ghost use Rattle.std.specs.Prelude.{◌≡◌, ◌<◌, ◌/◌, ◌%◌, false};
 ghost use Rattle.std.specs.Fmt.{digit_glyph};
-ghost use Rattle.wire_spec.specs.Texts.{hex_byte};
+ghost use Rattle.wire_spec.specs.Texts.{hex, hex_byte};
 ghost use Rattle.text_lines.specs.Bytes.{mac_text};
 
 use data_format::Mac;
@@ -31,6 +31,32 @@ pub(crate) fn pair(byte: u8) -> [u8; 2]
     ensures { result ≡ hex_byte byte }
 {
     [high(byte), low(byte)]
+}
+
+/// The pairs of eight bytes.
+#[inline(always)]
+pub(crate) fn eight_pairs(bytes: [u8; 8]) -> [u8; 16]
+    ensures { result ≡ hex bytes }
+{
+    let [a, b, c, d, e, f, g, h] = bytes;
+    [
+        high(a),
+        low(a),
+        high(b),
+        low(b),
+        high(c),
+        low(c),
+        high(d),
+        low(d),
+        high(e),
+        low(e),
+        high(f),
+        low(f),
+        high(g),
+        low(g),
+        high(h),
+        low(h),
+    ]
 }
 
 /// Six pairs of digits with colons between them.

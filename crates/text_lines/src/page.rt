@@ -6,7 +6,7 @@ ghost use Rattle.text_lines.specs.Pages.{Prints, Flushes};
 
 use crate::Piece;
 use crate::address::{dotted, grouped};
-use crate::hex::{colons, pair};
+use crate::hex::{colons, eight_pairs, pair};
 use crate::piece::kind_name;
 use data_format::{Address, Mac};
 use itoa::Buffer;
@@ -109,7 +109,20 @@ impl Page {
         self.put_pairs(sink, bytes)
     }
 
+    // Eight bytes at a time: a byte alone costs as much as eight.
     fn put_pairs<K: Sink>(&mut self, sink: &mut K, bytes: &[u8]) -> Result<(), Failed>
+        ensures { Prints (K.seen sink.old) (K.seen sink.new) self.old self.new result
+            (hex bytes.now) }
+    {
+        let mut rest = bytes;
+        while let [a, b, c, d, e, f, g, h, ..] = rest {
+            self.put(sink, &eight_pairs([*a, *b, *c, *d, *e, *f, *g, *h]))?;
+            rest = &rest[8..];
+        }
+        self.put_few_pairs(sink, rest)
+    }
+
+    fn put_few_pairs<K: Sink>(&mut self, sink: &mut K, bytes: &[u8]) -> Result<(), Failed>
         ensures { Prints (K.seen sink.old) (K.seen sink.new) self.old self.new result
             (hex bytes.now) }
     {
