@@ -10,7 +10,7 @@ ghost use Rattle.datagram_core.specs.Kinds.{HasKind};
 
 use crate::Record;
 use crate::records::RecordKind;
-use data_format::{Fault, Frame};
+use data_format::{Fault, Frame, RecordBody};
 use rec_counters::{EthernetCounters, IfCounters, VlanCounters};
 use rec_extended::{GatewayRec, RouterRec, SwitchRec};
 use rec_headers::{EthernetRec, Ipv4Rec, Ipv6Rec, RawHeader};

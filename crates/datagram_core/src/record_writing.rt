@@ -8,6 +8,7 @@ ghost use Rattle.datagram_core.specs.Written.{SlicesFit, FormatFits, record_form
 
 use crate::Record;
 use crate::writer_parts::{address_length, size_of_array};
+use data_format::RecordBody;
 use xdr_words::{Out, OutFull};
 
 // What is done with a record, by its variant: the number of its format, of enterprise 0, and the record. The last arm is
