@@ -15,8 +15,7 @@ use Rattle.wire_spec.proofs.OneReading.{whole_good, whole_refused, whole_taken}
 use Rattle.wire_spec.proofs.Spellings.{lawful_spelled, spelled_freely, spelled_lawful, spelled_length}
 use Rattle.datagram_views.specs.Tables.{datagram_read}
 use Rattle.sflow_tool.specs.Canons.{canon_text, canonical, canonical_entries, canonical_entry, spelled_anew}
-use Rattle.sflow_tool.specs.Checks.{faulty_count, is_faulty}
-use Rattle.sflow_tool.specs.Items.{is_malformed, item_from, item_of}
+use Rattle.sflow_tool.specs.Checks.{faulty_count, is_fault, is_faulty}
 
 -- ---- the bytes of an entry
 
@@ -72,27 +71,27 @@ module _ (bytes : List ℕ) (are : AreBytes bytes) where
           ∙ sym (canonical_read bytes t is)
       go (Err f) is = ap canonical (canonical_unread bytes f is)
 
-  zero_read : is_malformed (item_from (read Zero (canonical bytes))) ≡ is_malformed (item_from (read Any bytes))
+  zero_read : is_fault (read Zero (canonical bytes)) ≡ is_fault (read Any bytes)
   zero_read = go (read Any bytes) refl
     where
       unread : (f : Fault) (r : Result Tree Fault) → read Any bytes ≡ Err f → read Zero bytes ≡ r
-          → is_malformed (item_from r) ≡ true
+          → is_fault r ≡ true
       unread f (Ok t) bad is = let same : Ok t ≡ Err f = sym (read_freely bytes t are is) ∙ bad in cc
       unread f (Err g) bad is = refl
 
       go : (r : Result Tree Fault) → read Any bytes ≡ r
-          → is_malformed (item_from (read Zero (canonical bytes))) ≡ is_malformed (item_from (read Any bytes))
+          → is_fault (read Zero (canonical bytes)) ≡ is_fault (read Any bytes)
       go (Ok t) is =
-          ap (λ b. is_malformed (item_from (read Zero b))) (canonical_read bytes t is)
-          ∙ ap (λ r. is_malformed (item_from r)) (read_again Zero bytes t (good t is))
-          ∙ sym (ap (λ r. is_malformed (item_from r)) is)
+          ap (λ b. is_fault (read Zero b)) (canonical_read bytes t is)
+          ∙ ap (λ r. is_fault r) (read_again Zero bytes t (good t is))
+          ∙ sym (ap (λ r. is_fault r) is)
       go (Err f) is =
-          ap (λ b. is_malformed (item_from (read Zero b))) (canonical_unread bytes f is)
+          ap (λ b. is_fault (read Zero b)) (canonical_unread bytes f is)
           ∙ unread f (read Zero bytes) is refl
-          ∙ sym (ap (λ r. is_malformed (item_from r)) is)
+          ∙ sym (ap (λ r. is_fault r) is)
 
 pub zero_faulty : (e : Entry) → AreBytes e.bytes → is_faulty Zero (canonical_entry e) ≡ is_faulty Any e
-unfolding item_of
+unfolding is_faulty
 zero_faulty e are = zero_read e.bytes are
 
 -- ---- the entries of a capture

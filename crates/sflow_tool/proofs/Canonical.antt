@@ -2,6 +2,7 @@
 use Rattle.std.proofs.Common.{◌≡◌, ◌∙◌, ◌≤◌, ◌+◌, ◌-◌, ◌%◌, ℕ, zero, suc, ◌==◌, false, if◌then◌else◌, List, [], ◌∷◌, ◌++◌, length, take, replicate, flat_map, Option, Result, refl, ap, ap₂, append_assoc, append-nil, arith}
 use Rattle.std.proofs.lemmas.Bool.Decides.{nat_tests}
 use Rattle.wire_spec.specs.Captures.{Entry, capture_bytes, capture_header, entry_bytes}
+use Rattle.sflow_io.specs.Seen.{Seen}
 use Rattle.text_lines.specs.Pages.{Prints}
 use Rattle.text_lines.proofs.PageLaws.{prints_same}
 use Rattle.sflow_tool.specs.Canons.{canonical_entries, canonical_entry, canon_line, canon_part, canon_text, header_alone}
@@ -16,7 +17,7 @@ zeros_taken (suc (suc zero)) small = refl
 zeros_taken (suc (suc (suc zero))) small = refl
 zeros_taken (suc (suc (suc (suc n)))) small = absurd (omega arith)
 
-pub zeros_printed : {T E : Type 0} (r : Result T E) (a b : Option (List ℕ)) (p q : List ℕ) (n : ℕ)
+pub zeros_printed : {T E : Type 0} (r : Result T E) (a b : Seen) (p q : List ℕ) (n : ℕ)
     → Prints a b p q r (take ((4 - n % 4) % 4) (replicate 4 0)) → Prints a b p q r (replicate ((4 - n % 4) % 4) 0)
 zeros_printed r a b p q n prints = prints_same r a b p q _ _ (zeros_taken ((4 - n % 4) % 4) (omega arith)) prints
 

@@ -1,16 +1,17 @@
 -- How a run ends where no count of faults rose.
-use Rattle.std.proofs.Common.{◌≡◌, ℕ, ◌⊎◌, inl, inr, List, Option, Some, refl}
+use Rattle.std.proofs.Common.{◌≡◌, ℕ, ◌⊎◌, inl, inr, List, Option, Some, refl, arith}
 use Rattle.wire_spec.specs.Bytes.{AreBytes}
-use Rattle.sflow_io.specs.Causes.{Rose}
+use Rattle.sflow_io.specs.Seen.{Rose, next_count}
 use Rattle.command_words.specs.declared.command.Command.{Command}
 use Rattle.sflow_tool.specs.declared.status.Status.{Status}
 use Rattle.sflow_tool.specs.declared.status.Status.TheVariants.{Done, Found, Usage, ReadFault, WriteFault, BadInput, Memory, LinkFault, Spent}
 use Rattle.sflow_tool.specs.Outputs.{Decides}
+use Rattle.sflow_tool.specs.Outside.{Outside}
 use Rattle.sflow_tool.specs.Runs.{Ends, MayEnd, Runs}
 use Rattle.sflow_tool.proofs.OneEnding.{one_ending}
 
 -- by the status: it is what the input decides, or want of memory
-by_status : (c : Command) (input : List ℕ) (a b : Option (List ℕ)) (status ending : Status) → MayEnd c status
+by_status : (c : Command) (input : List ℕ) (a b : Outside) (status ending : Status) → MayEnd c status
     → Ends c input a b status → Decides c input ending → (status ≡ ReadFault → ⊥) → (status ≡ WriteFault → ⊥)
     → (status ≡ ending) ⊎ (status ≡ Memory)
 by_status c input a b Done ending may ends decides read write =
@@ -27,10 +28,13 @@ by_status c input a b LinkFault ending may ends decides read write = absurd may
 by_status c input a b Spent ending may ends decides read write =
     inl (one_ending c input Spent ending (ends.entries, ends.reads) decides)
 
-pub completed : (c : Command) (input : List ℕ) (left left' a b : Option (List ℕ)) (read read' written written' : ℕ)
-    (status ending : Status) → Runs c left left' a b read read' written written' status → AreBytes input
-    → left ≡ Some input → Decides c input ending → ¬ Rose read read' → ¬ Rose written written'
+rose : (n m : ℕ) → m ≡ next_count n → Rose n m
+rose n m is = omega (arith, is)
+
+pub completed : (c : Command) (input : List ℕ) (before after : Outside) (status ending : Status)
+    → Runs c before after status → AreBytes input → before.source.told ≡ Some input → Decides c input ending
+    → ¬ Rose before.source.faults after.source.faults → ¬ Rose before.sink.faults after.sink.faults
     → (status ≡ ending) ⊎ (status ≡ Memory)
-completed c input left left' a b read read' written written' status ending ran are told decides no_read no_write =
-    by_status c input a b status ending ran.may (ran.ends input are told) decides
-    (λ e. no_read (ran.read_fault e)) (λ e. no_write (ran.write_fault e))
+completed c input before after status ending ran are told decides no_read no_write =
+    by_status c input before after status ending ran.may (ran.ends input are told) decides
+    (λ e. no_read (rose _ _ (ran.read_fault e))) (λ e. no_write (rose _ _ (ran.write_fault e)))

@@ -13,7 +13,7 @@ use Rattle.sflow_io.specs.CaptureSteps.{FaultBehind, GoesOn}
 use Rattle.command_words.specs.declared.command.Command.{Command}
 use Rattle.sflow_tool.specs.declared.status.Status.{Status}
 use Rattle.sflow_tool.specs.declared.status.Status.TheVariants.{Done, Found, Usage, ReadFault, WriteFault, BadInput, Memory, LinkFault, Spent}
-use Rattle.sflow_tool.specs.Outputs.{Decides, IsRead, finds}
+use Rattle.sflow_tool.specs.Outputs.{Decides, IsRead, act}
 
 -- ---- two walks over the same bytes
 
@@ -98,7 +98,7 @@ walk_of_all es bytes h =
 
 -- what the front behind the entries says, where there are fewer than 2^48 of them; no reading ends before an entry
 abbrev by_front : Command → List Entry → Front → Status
-by_front c es Stops = if finds c es then Found else Done
+by_front c es Stops = if (act c).finds es then Found else Done
 by_front c es (Holds e more) = ReadFault
 by_front c es (Breaks within kind) = BadInput (length (capture_bytes es) + within) kind
 
@@ -224,7 +224,7 @@ halted : (c : Command) (input : List ℕ) (status : Status) → Decides c input 
 halted c input Done d = (d.0, all_halt c input d.0 Done false d.1 refl)
 halted c input Found d = (d.0, all_halt c input d.0 Found true d.1 refl)
 halted c input Usage d = absurd d.1
-halted c input ReadFault d = absurd d
+halted c input ReadFault d = absurd d.1
 halted c input WriteFault d = absurd d.1
 halted c input (BadInput at kind) d = (d.0, fault_halts c input d.0 at kind d.1)
 halted c input Memory d = absurd d.1

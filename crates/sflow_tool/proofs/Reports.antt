@@ -3,7 +3,7 @@ use Rattle.std.proofs.Common.{◌≡◌, ℕ, ◌+◌, ◌<◌, List, [], ◌∷
 use Rattle.std.specs.Prelude.{slice_get}
 use Rattle.std.proofs.lemmas.List.{take_more}
 use Rattle.std.proofs.lemmas.Option.{get_or_from_slice_get, slice_get_cases, slice_get_within}
-use Rattle.sflow_io.specs.Streams.{AppendsPrefix}
+use Rattle.sflow_io.specs.Seen.{Seen, TakesPart}
 use Rattle.books_spec.specs.Books.{StreamBooks, SourceBooks}
 use Rattle.text_lines.specs.Pages.{Puts, Prints}
 use Rattle.text_lines.proofs.PageLaws.{puts_both, puts_fails, prints_err}
@@ -25,7 +25,7 @@ not_there {X} xs i n within is none =
       | inr past ↦ absurd (omega (arith, within, is, past.0))
     ]
 
-module _ (a b c : Option (List ℕ)) (p q r line : List ℕ) where
+module _ (a b c : Seen) (p q r line : List ℕ) where
   module _ (xs : List StreamBooks) (i : ℕ) (x : StreamBooks) (there : Some x ≡ slice_get xs i)
       (same : line ≡ stream_text (i + 1) x) (first : Puts a b p q (stream_texts 1 (take i xs))) where
     next_stream : stream_texts 1 (take (i + 1) xs) ≡ stream_texts 1 (take i xs) ++ line
@@ -42,7 +42,7 @@ module _ (a b c : Option (List ℕ)) (p q r line : List ℕ) where
 
     -- it doesn't go out
     pub stream_fails : {T E : Type 0} (Q : E → Type 0) (result : Result T E) → IsErrAnd result Q
-        → AppendsPrefix b c (q ++ line) → Prints a c p r result (stream_texts 1 xs)
+        → TakesPart b c (q ++ line) → Prints a c p r result (stream_texts 1 xs)
     stream_fails Q result failed part =
         let rest : List ℕ = stream_texts (1 + length (take (i + 1) xs)) (drop (i + 1) xs) in
         let whole : stream_texts 1 xs ≡ stream_texts 1 (take i xs) ++ (line ++ rest) =
@@ -66,7 +66,7 @@ module _ (a b c : Option (List ℕ)) (p q r line : List ℕ) where
 
     -- it doesn't go out
     pub source_fails : {T E : Type 0} (Q : E → Type 0) (result : Result T E) → IsErrAnd result Q
-        → AppendsPrefix b c (q ++ line) → Prints a c p r result (source_texts xs)
+        → TakesPart b c (q ++ line) → Prints a c p r result (source_texts xs)
     source_fails Q result failed part =
         let rest : List ℕ = source_texts (drop (i + 1) xs) in
         let whole : source_texts xs ≡ source_texts (take i xs) ++ (line ++ rest) =

@@ -1,20 +1,21 @@
 -- A walk over the entries of an input, one entry after the other.
-use Rattle.std.proofs.Common.{◌≡◌, ℕ, ◌+◌, Bool, true, false, cond, inl, inr, List, [], ◌∷◌, ◌++◌, length, take, Option, Some, Ok, Err, refl, sym, ap, subst, ◌∙◌, append_assoc, append-nil, arith, length-append}
+use Rattle.std.proofs.Common.{◌≡◌, ℕ, ◌+◌, ◌<◌, ◌^◌, Bool, true, false, cond, inl, inr, List, [], ◌∷◌, ◌++◌, length, take, Option, Some, Ok, Err, refl, sym, ap, subst, ◌∙◌, append_assoc, append-nil, arith, length-append}
 use Rattle.std.specs.List.{count_by}
+use Rattle.std.specs.Io.KnownBytes.{prepend_known}
 use Rattle.std.proofs.lemmas.List.Sums.{fold_push}
 use Rattle.wire_spec.specs.Bytes.{AreBytes}
 use Rattle.wire_spec.specs.Captures.{Entry}
 use Rattle.sflow_io.specs.declared.capture.Next.TheVariants as next
-use Rattle.sflow_io.specs.declared.capture.ReadRefusal.{ReadRefusal}
 use Rattle.sflow_io.specs.declared.capture.Stage.{Stage}
 use Rattle.sflow_io.specs.declared.capture.Stage.TheVariants as stage
-use Rattle.sflow_io.specs.CaptureAnswers.{ReaderState, HasEnded, unread, stage_after}
-use Rattle.sflow_io.specs.CaptureSteps.{HasGiven, BeginsWithEntries, EndsAt, IsAllOf, with_answer}
-use Rattle.sflow_io.specs.Streams.{AppendsPrefix}
+use Rattle.sflow_io.specs.CaptureAnswers.{ReaderState, HasEnded, unread}
+use Rattle.sflow_io.specs.CaptureSteps.{HasGiven, HasGivenAt, BeginsWithEntries, with_answer}
+use Rattle.sflow_io.specs.Seen.{Seen, TakesPart}
 use Rattle.text_lines.specs.Pages.{Puts}
 use Rattle.text_lines.proofs.PageLaws.{puts_none, puts_both, puts_part}
 use Rattle.sflow_tool.specs.Lines.{lines_of}
-use Rattle.sflow_tool.specs.Walks.{Moved, PutsLines}
+use Rattle.sflow_tool.specs.Tasks.{Task}
+use Rattle.sflow_tool.specs.Walks.{IsFresh, Moved, PutsLines, VisitFailed}
 
 -- ---- lines
 
@@ -34,91 +35,80 @@ count_by-push marks xs x = fold_push (λ n y. n + cond (marks y) 1 0) 0 xs x
 
 -- ---- where a walk stands
 
--- of the input these entries were read, and their lines were put
-pub record SoFar (line : ℕ → Entry → List ℕ) (marks : Entry → Bool) (input : List ℕ) (m : Moved)
-    (reader : ReaderState) (left : Option (List ℕ)) (count marked : ℕ) : Type 0 where
+-- of what the source told these entries were read, they were visited, and their lines were put
+pub record SoFar (t : Task) (visited : List Entry → Type 0) (source source' : Seen) (m : Moved)
+    (reader : ReaderState) (count marked : ℕ) : Type 0 where
   pub entries : List Entry
-  pub given : HasGiven input entries reader.stage (unread reader left)
+  pub given : (input : List ℕ) → AreBytes input → source.told ≡ Some input → HasGiven input entries reader source'
   pub number : count ≡ length entries
-  pub counted : marked ≡ count_by marks entries
-  pub put : PutsLines line m entries
+  pub marked_are : marked ≡ count_by t.marks entries
+  pub were : visited entries
+  pub put : PutsLines t m entries
 
-pub nothing_yet : (line : ℕ → Entry → List ℕ) (marks : Entry → Bool) (input : List ℕ) (taken : Option (List ℕ))
-    (held : List ℕ) (reader : ReaderState) (left : Option (List ℕ))
-    → reader ≡ record { stage = stage.Start; held = [] } → left ≡ Some input
-    → SoFar line marks input (record { taken = taken; taken' = taken; held = held; held' = held }) reader left 0 0
-nothing_yet line marks input taken held reader left fresh told =
-    let start : HasGiven input [] stage.Start (unread (record { stage = stage.Start; held = [] }) left) =
-    (refl, ap (unread (record { stage = stage.Start; held = [] })) told) in
-    let P : ReaderState → Type 0 = λ r. HasGiven input [] r.stage (unread r left) in
-    record {
-      entries = [];
-      given = subst P (sym fresh) start;
-      number = refl;
-      counted = refl;
-      put = puts_none taken held;
-    }
+pub nothing_yet : (t : Task) (visited : List Entry → Type 0) (source sink : Seen) (page : List ℕ)
+    (reader : ReaderState) → IsFresh reader → visited []
+    → SoFar t visited source source (record { sink = sink; sink' = sink; page = page; page' = page }) reader 0 0
+nothing_yet t visited source sink page reader fresh none = record {
+  entries = [];
+  given = λ input are is.
+      let start : HasGiven input [] (record { stage = stage.Start; held = [] }) source =
+      (refl, ap (prepend_known []) is) in
+      subst (λ (r : ReaderState). HasGiven input [] r source) (sym fresh) start;
+  number = refl;
+  marked_are = refl;
+  were = none;
+  put = puts_none sink page;
+}
 
 -- what was given before the end stands at the front of the input
-pub given_front : (input : List ℕ) (entries : List Entry) (at : Stage) (left : Option (List ℕ))
-    → ¬ (HasEnded at) → HasGiven input entries at left → BeginsWithEntries input entries
-given_front input entries stage.Start left going given = inl given.0
-given_front input entries (stage.Within count offset) left going given = inr (given.rest, given.before)
-given_front input entries (stage.Ended last) left going given = absurd (going tt)
+given_front : (input : List ℕ) (entries : List Entry) (at : Stage) (more left : Option (List ℕ))
+    → ¬ (HasEnded at) → HasGivenAt input entries at more left → BeginsWithEntries input entries
+given_front input entries stage.Start more left going given = inl given.0
+given_front input entries (stage.Within count offset) more left going given = inr (given.rest, given.before)
+given_front input entries (stage.Ended last) more left going given = absurd (going tt)
 
 -- ---- a further entry
 
-module _ (line : ℕ → Entry → List ℕ) (marks : Entry → Bool) (input : List ℕ) (are : AreBytes input)
-    (a b : Option (List ℕ)) (p q : List ℕ) (reader reader' : ReaderState) (left left' : Option (List ℕ))
-    (count marked at len : ℕ) (room : List ℕ)
-    (far : SoFar line marks input (record { taken = a; taken' = b; held = p; held' = q }) reader left count marked)
-    (given : (bytes : List ℕ) (entries : List Entry) → AreBytes bytes
-    → HasGiven bytes entries reader.stage (unread reader left)
-    → HasGiven bytes (with_answer entries room (Ok (next.Entry at len))) reader'.stage (unread reader' left')) where
+module _ (t : Task) (visited visited' : List Entry → Type 0) (source now now' a b : Seen)
+    (p q : List ℕ) (reader reader' : ReaderState) (count marked at len : ℕ) (room : List ℕ)
+    (far : SoFar t visited source now (record { sink = a; sink' = b; page = p; page' = q }) reader count marked)
+    (given : (bytes : List ℕ) (entries : List Entry) → AreBytes bytes → HasGiven bytes entries reader now
+    → HasGiven bytes (with_answer entries room (Ok (next.Entry at len))) reader' now') where
   abbrev pub entry : Entry
   entry = record { arrival = at; bytes = take len room }
 
   abbrev pub entries : List Entry
   entries = far.entries ++ entry ∷ []
 
-  text : lines_of line 1 entries ≡ lines_of line 1 far.entries ++ line (count + 1) entry
+  text : lines_of t.line 1 entries ≡ lines_of t.line 1 far.entries ++ t.line (count + 1) entry
   text =
-      lines-push line 1 far.entries entry
-      ∙ ap (λ n. lines_of line 1 far.entries ++ line n entry) (omega (arith, far.number))
+      lines-push t.line 1 far.entries entry
+      ∙ ap (λ n. lines_of t.line 1 far.entries ++ t.line n entry) (omega (arith, far.number))
 
-  pub one_more : (c : Option (List ℕ)) (r : List ℕ) (marked' : ℕ) → Puts b c q r (line (count + 1) entry)
-      → marked' ≡ marked + cond (marks entry) 1 0
-      → SoFar line marks input (record { taken = a; taken' = c; held = p; held' = r }) reader' left' (count + 1) marked'
-  one_more c r marked' put counted = record {
+  pub one_more : (c : Seen) (r : List ℕ) (marked' : ℕ) → visited' entries
+      → Puts b c q r (t.line (count + 1) entry)
+      → marked' ≡ marked + cond (t.marks entry) 1 0
+      → SoFar t visited' source now' (record { sink = a; sink' = c; page = p; page' = r }) reader' (count + 1) marked'
+  one_more c r marked' were put counted = record {
     entries = entries;
-    given = given input far.entries are far.given;
+    given = λ input are is. given input far.entries are (far.given input are is);
     number = omega (arith, far.number, length-append far.entries (entry ∷ []));
-    counted = counted ∙ ap (λ n. n + cond (marks entry) 1 0) far.counted
-        ∙ sym (count_by-push marks far.entries entry);
+    marked_are = counted ∙ ap (λ n. n + cond (t.marks entry) 1 0) far.marked_are
+        ∙ sym (count_by-push t.marks far.entries entry);
+    were = were;
     put = subst (Puts a c p r) (sym text) (puts_both a b c p q r _ _ far.put put);
   }
 
-  pub not_written : (c : Option (List ℕ)) → ¬ (HasEnded reader'.stage)
-      → AppendsPrefix b c (q ++ line (count + 1) entry)
-      → (es : List Entry) × BeginsWithEntries input es × AppendsPrefix a c (p ++ lines_of line 1 es)
-  not_written c going part = (
-    entries,
-    given_front input entries reader'.stage (unread reader' left') going (given input far.entries are far.given),
-    subst (λ l. AppendsPrefix a c (p ++ l)) (sym text) (puts_part a b c p q _ _ far.put part),
-  )
-
--- ---- the last answer
-
--- a refusal, or the end
-pub stopped : (input : List ℕ) (entries : List Entry) (room : List ℕ) (before : Stage) (left : Option (List ℕ))
-    (e : ReadRefusal) → HasGiven input (with_answer entries room (Err e)) (stage_after before (Err e)) left
-    → EndsAt entries input (Err e)
-stopped input entries room before left e given = given
-
-pub ended : (input : List ℕ) (entries : List Entry) (room : List ℕ) (before : Stage) (left : Option (List ℕ))
-    → HasGiven input (with_answer entries room (Ok next.End)) (stage_after before (Ok next.End)) left
-    → IsAllOf entries input
-ended input entries room before left given = given
+  pub not_written : (c : Seen) (r : List ℕ) → ¬ (HasEnded reader'.stage)
+      → TakesPart b c (q ++ t.line (count + 1) entry)
+      → VisitFailed t source (record { sink = a; sink' = c; page = p; page' = r })
+  not_written c r going part = record {
+    entries = entries;
+    begins = λ input are is.
+        given_front input entries reader'.stage (unread reader'.held now') now'.told going
+        (given input far.entries are (far.given input are is));
+    put = subst (λ l. TakesPart a c (p ++ l)) (sym text) (puts_part a b c p q _ _ far.put part);
+  }
 
 -- ---- the count
 
@@ -131,16 +121,18 @@ counted_none m t new old same false_is is =
     let more : new ≡ old + 0 = omega (arith, is) in
     more ∙ ap (λ b. old + cond b 1 0) (sym false_is ∙ same)
 
--- ---- the object that puts the lines keeps them
+-- ---- the visitor keeps its task
 
-pub puts_by : (a b : Option (List ℕ)) (p q : List ℕ) (number : ℕ) (e : Entry) (line line' : ℕ → Entry → List ℕ)
-    → line' ≡ line → Puts a b p q (line' number e) → Puts a b p q (line number e)
-puts_by a b p q number e line line' same put = subst (λ (f : ℕ → Entry → List ℕ). Puts a b p q (f number e)) same put
+pub puts_by : (a b : Seen) (p q : List ℕ) (number : ℕ) (e : Entry) (t t' : Task)
+    → t' ≡ t → Puts a b p q (t'.line number e) → Puts a b p q (t.line number e)
+puts_by a b p q number e t t' same put = subst (λ (u : Task). Puts a b p q (u.line number e)) same put
 
-pub part_by : (a b : Option (List ℕ)) (p : List ℕ) (number : ℕ) (e : Entry) (line line' : ℕ → Entry → List ℕ)
-    → line' ≡ line → AppendsPrefix a b (p ++ line' number e) → AppendsPrefix a b (p ++ line number e)
-part_by a b p number e line line' same part =
-    subst (λ (f : ℕ → Entry → List ℕ). AppendsPrefix a b (p ++ f number e)) same part
+pub part_by : (a b : Seen) (p : List ℕ) (number : ℕ) (e : Entry) (t t' : Task)
+    → t' ≡ t → TakesPart a b (p ++ t'.line number e) → TakesPart a b (p ++ t.line number e)
+part_by a b p number e t t' same part = subst (λ (u : Task). TakesPart a b (p ++ u.line number e)) same part
 
-pub marked_by : (m : Bool) (e : Entry) (marks marks' : Entry → Bool) → marks' ≡ marks → m ≡ marks' e → m ≡ marks e
-marked_by m e marks marks' same is = is ∙ ap (λ (f : Entry → Bool). f e) same
+pub marked_by : (m : Bool) (e : Entry) (t t' : Task) → t' ≡ t → m ≡ t'.marks e → m ≡ t.marks e
+marked_by m e t t' same is = is ∙ ap (λ (u : Task). u.marks e) same
+
+pub waits_by : (t t' : Task) → t' ≡ t → t.waits ≡ true → t'.waits ≡ true
+waits_by t t' same waits = ap (λ (u : Task). u.waits) same ∙ waits

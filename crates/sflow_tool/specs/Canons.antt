@@ -1,5 +1,5 @@
 -- What `canon` writes: a capture with the same arrivals, each datagram with zero padding.
-use Rattle.std.specs.Prelude.{ℕ, ◌==◌, List, [], ◌∷◌, ◌++◌, map, Result, Ok, Err, if◌then◌else◌}
+use Rattle.std.specs.Prelude.{ℕ, ◌==◌, false, true, List, [], ◌∷◌, ◌++◌, length, map, Result, Ok, Err, if◌then◌else◌}
 use Rattle.wire_spec.specs.declared.fault.Fault.{Fault}
 use Rattle.wire_spec.specs.declared.pad.Pad.TheVariants.{Any}
 use Rattle.wire_spec.specs.Captures.{Entry, capture_bytes, capture_header, entry_bytes}
@@ -7,6 +7,8 @@ use Rattle.wire_spec.specs.Shapes.{Tree}
 use Rattle.wire_spec.specs.Spelling.{spell}
 use Rattle.wire_spec.specs.Whole.{whole_reading}
 use Rattle.datagram_views.specs.Tables.{datagram_read}
+use Rattle.sflow_tool.specs.Acts.{Act}
+use Rattle.sflow_tool.specs.Tasks.{Task}
 
 -- the value that was read, spelled with zero padding, or the bytes where none was
 abbrev pub spelled_anew : List ℕ → Result Tree Fault → List ℕ
@@ -32,6 +34,16 @@ abbrev pub canon_part : List Entry → List ℕ
 canon_part [] = []
 canon_part (e ∷ entries) = canon_text (e ∷ entries)
 
+abbrev pub canon_act : Act
+canon_act = record {
+  whole = canon_text;
+  part = canon_part;
+  finds = λ entries. false;
+  may_find = false;
+  at_end = false;
+  memory_first = true;
+}
+
 -- ---- entry by entry
 
 -- the header stands before the first entry
@@ -44,3 +56,11 @@ canon_line number e = header_before number ++ entry_bytes (canonical_entry e)
 -- and alone where there were none
 abbrev pub header_alone : ℕ → List ℕ
 header_alone count = if count == 0 then capture_header 1 else []
+
+abbrev pub canon_task : Task
+canon_task = record {
+  line = canon_line;
+  marks = λ e. false;
+  last = λ entries. header_alone (length entries);
+  waits = false;
+}

@@ -1,24 +1,32 @@
 -- What `check` writes: a line for each entry that is no datagram under a reading of padding, and then how many
 -- entries there are and how many of them are faulty.
-use Rattle.std.specs.Prelude.{ℕ, Bool, List, [], ◌∷◌, ◌++◌, length, codes, decimal, nat_lt, if◌then◌else◌}
+use Rattle.std.specs.Prelude.{ℕ, Bool, true, false, List, [], ◌∷◌, ◌++◌, length, codes, decimal, nat_lt, Result, Ok, Err}
 use Rattle.std.specs.List.{concat, count_by}
+use Rattle.wire_spec.specs.declared.fault.Fault.{Fault}
 use Rattle.wire_spec.specs.declared.pad.Pad.{Pad}
 use Rattle.wire_spec.specs.Captures.{Entry}
-use Rattle.sflow_tool.specs.declared.status.Status.{Status}
-use Rattle.sflow_tool.specs.declared.status.Status.TheVariants.{Done, Found}
+use Rattle.wire_spec.specs.Shapes.{Tree}
+use Rattle.wire_spec.specs.Whole.{whole_reading}
+use Rattle.datagram_views.specs.Tables.{datagram_read}
+use Rattle.sflow_tool.specs.Acts.{Act}
 use Rattle.sflow_tool.specs.Faults.{fault_line}
-use Rattle.sflow_tool.specs.Items.{ItemView, sound, malformed, item_of, is_malformed}
 use Rattle.sflow_tool.specs.Lines.{lines_of}
+use Rattle.sflow_tool.specs.Tasks.{Task}
 
-abbrev pub item_line : ℕ → ItemView → List ℕ
-item_line number (sound head) = []
-item_line number (malformed f) = fault_line number f
+-- the line of an entry whose bytes were read so: its fault, if it is no datagram
+abbrev pub reading_line : ℕ → Result Tree Fault → List ℕ
+reading_line number (Ok t) = []
+reading_line number (Err f) = fault_line number f
 
-abbrev pub check_line : Pad → ℕ → Entry → List ℕ
-check_line p number e = item_line number (item_of p e.bytes)
+abbrev pub is_fault : Result Tree Fault → Bool
+is_fault (Ok t) = false
+is_fault (Err f) = true
 
-abbrev pub is_faulty : Pad → Entry → Bool
-is_faulty p e = is_malformed (item_of p e.bytes)
+unfoldable pub check_line : Pad → ℕ → Entry → List ℕ
+check_line p number e = reading_line number (whole_reading p datagram_read e.bytes)
+
+unfoldable pub is_faulty : Pad → Entry → Bool
+is_faulty p e = is_fault (whole_reading p datagram_read e.bytes)
 
 -- how many of the entries are faulty
 abbrev pub faulty_count : Pad → List Entry → ℕ
@@ -35,6 +43,20 @@ check_lines p entries = lines_of (check_line p) 1 entries
 abbrev pub check_text : Pad → List Entry → List ℕ
 check_text p entries = check_lines p entries ++ checked_line (length entries) (faulty_count p entries)
 
--- the status of a run that read all entries, so many of which are faulty
-abbrev pub check_status : ℕ → Status
-check_status faulty = if nat_lt 0 faulty then Found else Done
+abbrev pub check_act : Pad → Act
+check_act p = record {
+  whole = check_text p;
+  part = check_lines p;
+  finds = λ entries. nat_lt 0 (faulty_count p entries);
+  may_find = true;
+  at_end = false;
+  memory_first = true;
+}
+
+abbrev pub check_task : Pad → Task
+check_task p = record {
+  line = check_line p;
+  marks = is_faulty p;
+  last = λ entries. checked_line (length entries) (faulty_count p entries);
+  waits = false;
+}

@@ -1,88 +1,50 @@
--- What each command writes of a capture's entries, and what it may do. A command joins by one line in each of
--- the first definitions.
-use Rattle.std.specs.Prelude.{◌≡◌, ℕ, Bool, true, false, List, [], nat_lt}
+-- What each command does, how its reading may end, and what is written then.
+use Rattle.std.specs.Prelude.{◌≡◌, ℕ, Bool, true, false, List, Option}
 use Rattle.wire_spec.specs.Captures.{Entry}
-use Rattle.sflow_io.specs.CaptureSteps.{IsAllOf, FaultBehind, GoesOn, BeginsWithEntries}
+use Rattle.sflow_io.specs.CaptureSteps.{IsAllOf, FaultBehind, GoesOn}
+use Rattle.sflow_io.specs.ReadFaults.{StopsBehind}
 use Rattle.command_words.specs.declared.command.Command.{Command}
 use Rattle.command_words.specs.declared.command.Command.TheVariants.{Replay, Show, Check, Canon}
 use Rattle.sflow_tool.specs.declared.status.Status.{Status}
 use Rattle.sflow_tool.specs.declared.status.Status.TheVariants.{Done, Found, ReadFault, BadInput, Spent}
-use Rattle.show_lines.specs.Shown.{entry_text}
-use Rattle.sflow_tool.specs.Lines.{lines_of}
-use Rattle.sflow_tool.specs.Checks.{check_lines, check_text, faulty_count}
-use Rattle.sflow_tool.specs.Replays.{report_of}
-use Rattle.sflow_tool.specs.Canons.{canon_part, canon_text}
+use Rattle.sflow_tool.specs.Acts.{Act}
+use Rattle.sflow_tool.specs.Canons.{canon_act}
+use Rattle.sflow_tool.specs.Checks.{check_act}
+use Rattle.sflow_tool.specs.Replays.{replay_act}
+use Rattle.sflow_tool.specs.Shows.{show_act}
 
--- the lines of these entries, one after the other
-abbrev pub shown_lines : List Entry → List ℕ
-shown_lines entries = lines_of entry_text 1 entries
-
--- the text where the capture is read to its end
-abbrev pub whole_text : Command → List Entry → List ℕ
-whole_text (Replay limits) entries = report_of limits entries
-whole_text Show entries = shown_lines entries
-whole_text (Check pad) entries = check_text pad entries
-whole_text Canon entries = canon_text entries
-
--- the text where reading ends before that
-abbrev pub part_text : Command → List Entry → List ℕ
-part_text (Replay limits) entries = []
-part_text Show entries = shown_lines entries
-part_text (Check pad) entries = check_lines pad entries
-part_text Canon entries = canon_part entries
-
--- whether a run over all of these entries has found what it was to find
-abbrev pub finds : Command → List Entry → Bool
-finds (Replay limits) entries = false
-finds Show entries = false
-finds (Check pad) entries = nat_lt 0 (faulty_count pad entries)
-finds Canon entries = false
-
--- the command writes nothing before it has read all
-abbrev pub WritesAtTheEnd : Command → Type 0
-WritesAtTheEnd (Replay limits) = Unit {0}
-WritesAtTheEnd Show = ⊥
-WritesAtTheEnd (Check pad) = ⊥
-WritesAtTheEnd Canon = ⊥
-
--- the command takes all memory before it reads or writes a byte
-abbrev pub TakesMemoryFirst : Command → Type 0
-TakesMemoryFirst (Replay limits) = Unit {0}
-TakesMemoryFirst Show = Unit {0}
-TakesMemoryFirst (Check pad) = Unit {0}
-TakesMemoryFirst Canon = Unit {0}
-
--- the command may find something
-abbrev pub MayFind : Command → Type 0
-MayFind (Replay limits) = ⊥
-MayFind Show = ⊥
-MayFind (Check pad) = Unit {0}
-MayFind Canon = ⊥
-
--- ---- the same for all commands
+-- the commands' rows
+abbrev pub act : Command → Act
+act (Replay limits) = replay_act limits
+act Show = show_act
+act (Check pad) = check_act pad
+act Canon = canon_act
 
 -- these are all entries of the input, and the command finds something or doesn't
 pub record IsRead (c : Command) (entries : List Entry) (input : List ℕ) (found : Bool) : Type 0 where
   pub all : IsAllOf entries input
-  pub found_is : finds c entries ≡ found
+  pub found_is : (act c).finds entries ≡ found
 
 -- These are the entries of the input that a run of the command reads, and its reading ends so: at the end, at what is no
--- capture, behind 2^48 entries, or at any point where a read fails.
+-- capture, or behind 2^48 entries.
 abbrev pub Reads : Command → List ℕ → List Entry → Status → Type 0
 Reads c input entries Done = IsRead c entries input false
 Reads c input entries Found = IsRead c entries input true
 Reads c input entries (BadInput at kind) = FaultBehind entries input at kind
 Reads c input entries Spent = GoesOn entries input
-Reads c input entries ReadFault = BeginsWithEntries input entries
 Reads c input entries _ = ⊥
+
+-- The same where a read may fail as well: then no whole entry is lost that has left the source, which has so much left.
+abbrev pub ReadsTo : Command → List ℕ → Option (List ℕ) → List Entry → Status → Type 0
+ReadsTo c input left entries ReadFault = StopsBehind entries input left
+ReadsTo c input left entries ending = Reads c input entries ending
 
 -- what is written of the entries read, by how reading ended
 abbrev pub text_at : Command → List Entry → Status → List ℕ
-text_at c entries Done = whole_text c entries
-text_at c entries Found = whole_text c entries
-text_at c entries _ = part_text c entries
+text_at c entries Done = (act c).whole entries
+text_at c entries Found = (act c).whole entries
+text_at c entries _ = (act c).part entries
 
 -- the input alone makes a run of the command end so, if no call fails and memory is there
 abbrev pub Decides : Command → List ℕ → Status → Type 0
-Decides c input ReadFault = ⊥
 Decides c input ending = (entries : List Entry) × Reads c input entries ending

@@ -1,58 +1,64 @@
 -- What a run of a command does: for each status, what it says of the input, of the sink and of the counts of
 -- faults.
-use Rattle.std.specs.Prelude.{◌≡◌, ◌≢◌, ◌⊎◌, ℕ, List, Option, Some}
-use Rattle.std.specs.Io.KnownBytes.{Appends, IsAtEnd}
-use Rattle.sflow_io.specs.Causes.{Rose}
-use Rattle.sflow_io.specs.Streams.{AppendsPrefix}
+use Rattle.std.specs.Prelude.{◌≡◌, ◌≢◌, ◌⊎◌, ℕ, true, List, Some}
+use Rattle.std.specs.Io.KnownBytes.{IsAtEnd}
 use Rattle.wire_spec.specs.Bytes.{AreBytes}
 use Rattle.wire_spec.specs.Captures.{Entry}
+use Rattle.sflow_io.specs.CaptureSteps.{BeginsWithEntries}
+use Rattle.sflow_io.specs.Seen.{Takes, TakesPart, next_count}
 use Rattle.command_words.specs.declared.command.Command.{Command}
 use Rattle.sflow_tool.specs.declared.status.Status.{Status}
 use Rattle.sflow_tool.specs.declared.status.Status.TheVariants.{Done, Found, Usage, ReadFault, WriteFault, Memory, LinkFault}
-use Rattle.sflow_tool.specs.Outputs.{MayFind, Reads, TakesMemoryFirst, WritesAtTheEnd, text_at}
+use Rattle.sflow_tool.specs.Outputs.{ReadsTo, act, text_at}
+use Rattle.sflow_tool.specs.Outside.{Outside}
 
 -- the statuses that the command may end with
 abbrev pub MayEnd : Command → Status → Type 0
-MayEnd c Found = MayFind c
+MayEnd c Found = (act c).may_find ≡ true
 MayEnd c Usage = ⊥
 MayEnd c LinkFault = ⊥
 MayEnd c _ = Unit {0}
 
 -- some entries were read, reading ended so, and the sink took what is written of them
-pub record Wrote (c : Command) (input : List ℕ) (old new : Option (List ℕ)) (ending : Status) : Type 0 where
+pub record Wrote (c : Command) (input : List ℕ) (before after : Outside) (ending : Status) : Type 0 where
   pub entries : List Entry
-  pub reads : Reads c input entries ending
-  pub taken : Appends old new (text_at c entries ending)
+  pub reads : ReadsTo c input after.source.told entries ending
+  pub taken : Takes before.sink after.sink (text_at c entries ending)
 
--- some entries were read, and the sink took a beginning of what is written of them
-pub record WroteBeginning (c : Command) (input : List ℕ) (old new : Option (List ℕ)) : Type 0 where
-  pub entries : List Entry
-  pub ending : Status
-  pub reads : Reads c input entries ending
-  pub taken : AppendsPrefix old new (text_at c entries ending)
+-- A write failed: while entries were read, at the last of these, and no read had failed; or once reading had ended so.
+-- The sink took a beginning of what is written of them.
+pub data WroteBeginning (c : Command) (input : List ℕ) (before after : Outside) : Type 0 where
+  midway : (entries : List Entry) → BeginsWithEntries input entries → after.source.faults ≡ before.source.faults
+      → TakesPart before.sink after.sink ((act c).part entries)
+      → WroteBeginning c input before after
+  behind : (entries : List Entry) (ending : Status) → ReadsTo c input after.source.told entries ending
+      → TakesPart before.sink after.sink (text_at c entries ending)
+      → WroteBeginning c input before after
 
 -- what a status says where the source told this input
-abbrev pub Ends : Command → List ℕ → Option (List ℕ) → Option (List ℕ) → Status → Type 0
-Ends c input old new Memory = Unit {0}
-Ends c input old new WriteFault = WroteBeginning c input old new
-Ends c input old new status = Wrote c input old new status
+abbrev pub Ends : Command → List ℕ → Outside → Outside → Status → Type 0
+Ends c input before after Memory = Unit {0}
+Ends c input before after WriteFault = WroteBeginning c input before after
+Ends c input before after status = Wrote c input before after status
 
--- A run of the command, from what the source had left to what it has, from what the sink had taken to what it
--- took, and from either's count of faults to the next.
-pub record Runs (c : Command) (left left' taken taken' : Option (List ℕ)) (read read' written written' : ℕ)
-    (status : Status) : Type 0 where
+-- a run of the command, from what the outside showed before it to what it shows after it
+pub record Runs (c : Command) (before after : Outside) (status : Status) : Type 0 where
   -- the command may end so, and the input, which is bytes, is such
   pub may : MayEnd c status
-  pub ends : (input : List ℕ) → AreBytes input → left ≡ Some input → Ends c input taken taken' status
+  pub ends : (input : List ℕ) → AreBytes input → before.source.told ≡ Some input → Ends c input before after status
   -- where the input was read to its end, the source is there
-  pub at_end : (status ≡ Done) ⊎ (status ≡ Found) → IsAtEnd left'
+  pub at_end : (status ≡ Done) ⊎ (status ≡ Found) → IsAtEnd after.source.told
   -- a report is written whole or not begun, unless a write failed
-  pub quiet : WritesAtTheEnd c → status ≢ Done → status ≢ WriteFault → taken' ≡ taken
+  pub quiet : (act c).at_end ≡ true → status ≢ Done → status ≢ Found → status ≢ WriteFault
+      → after.sink.told ≡ before.sink.told
   -- memory is taken before the first byte is read or written
-  pub early : TakesMemoryFirst c → status ≡ Memory
-      → (left' ≡ left) × (read' ≡ read) × (taken' ≡ taken) × (written' ≡ written)
-  -- a fault of the source or the sink comes only where its own count rose, and else the count stands
-  pub read_fault : status ≡ ReadFault → Rose read read'
-  pub read_kept : status ≢ ReadFault → (status ≡ WriteFault → WritesAtTheEnd c) → read' ≡ read
-  pub write_fault : status ≡ WriteFault → Rose written written'
-  pub write_kept : status ≢ WriteFault → written' ≡ written
+  pub early : (act c).memory_first ≡ true → status ≡ Memory → after ≡ before
+  -- where the run ends with a fault of the source or the sink, one call of it failed, and else none
+  pub read_fault : status ≡ ReadFault → after.source.faults ≡ next_count before.source.faults
+  pub read_kept : status ≢ ReadFault → (status ≡ WriteFault → (act c).at_end ≡ true)
+      → after.source.faults ≡ before.source.faults
+  pub write_fault : status ≡ WriteFault → after.sink.faults ≡ next_count before.sink.faults
+  pub write_kept : status ≢ WriteFault → after.sink.faults ≡ before.sink.faults
+  -- no more than one read fails, also where a write fails then
+  pub reads_once : (after.source.faults ≡ before.source.faults)
+      ⊎ (after.source.faults ≡ next_count before.source.faults)

@@ -1,65 +1,76 @@
--- Writing a line for each entry of a capture as it is read, through a page to a sink.
-use Rattle.std.specs.Prelude.{◌≡◌, ◌≢◌, ℕ, Bool, List, ◌++◌, length, Option, Result, Ok, Err}
+-- A visit to each entry of a capture as it is read, with a page on its way to a sink.
+use Rattle.std.specs.Prelude.{◌≡◌, ◌≢◌, ℕ, List, [], ◌++◌, length, Some, Result, Ok, Err}
 use Rattle.std.specs.List.{count_by}
 use Rattle.std.specs.Io.KnownBytes.{IsAtEnd}
+use Rattle.wire_spec.specs.Bytes.{AreBytes}
 use Rattle.wire_spec.specs.Captures.{Entry}
 use Rattle.sflow_io.specs.declared.capture.ReadRefusal.{ReadRefusal}
 use Rattle.sflow_io.specs.declared.capture.ReadRefusal.TheVariants as refusals
-use Rattle.sflow_io.specs.Causes.{Rose}
+use Rattle.sflow_io.specs.declared.capture.Stage.TheVariants.{Start}
+use Rattle.sflow_io.specs.CaptureAnswers.{ReaderState}
 use Rattle.sflow_io.specs.CaptureSteps.{IsAllOf, EndsAt, BeginsWithEntries}
-use Rattle.sflow_io.specs.Streams.{AppendsPrefix}
+use Rattle.sflow_io.specs.Seen.{Seen, TakesPart, next_count}
 use Rattle.text_lines.specs.Pages.{Puts}
 use Rattle.sflow_tool.specs.declared.walk.Counts.{Counts}
 use Rattle.sflow_tool.specs.declared.walk.Stop.{Stop}
 use Rattle.sflow_tool.specs.declared.walk.Stop.TheVariants as stops
 use Rattle.sflow_tool.specs.Lines.{lines_of}
+use Rattle.sflow_tool.specs.Tasks.{Task}
 
--- what the sink had taken and has taken, and what the page held and holds
+-- the reader has read nothing yet
+abbrev pub IsFresh : ReaderState → Type 0
+IsFresh reader = reader ≡ record { stage = Start; held = [] }
+
+-- what the sink showed and shows, and what the page held and holds
 pub record Moved : Type 0 where
-  pub taken : Option (List ℕ)
-  pub taken' : Option (List ℕ)
-  pub held : List ℕ
-  pub held' : List ℕ
+  pub sink : Seen
+  pub sink' : Seen
+  pub page : List ℕ
+  pub page' : List ℕ
 
 -- the lines of these entries were put
-abbrev pub PutsLines : (ℕ → Entry → List ℕ) → Moved → List Entry → Type 0
-PutsLines line m entries = Puts m.taken m.taken' m.held m.held' (lines_of line 1 entries)
+abbrev pub PutsLines : Task → Moved → List Entry → Type 0
+PutsLines t m entries = Puts m.sink m.sink' m.page m.page' (lines_of t.line 1 entries)
 
--- all entries of the input were read, and these are their numbers
-pub record WroteAll (line : ℕ → Entry → List ℕ) (marks : Entry → Bool) (input : List ℕ) (m : Moved)
-    (counts : Counts) : Type 0 where
+-- these are the numbers of entries, and of those that are marked
+pub record AreCounts (t : Task) (entries : List Entry) (counts : Counts) : Type 0 where
+  pub entries_are : counts.entries ≡ length entries
+  pub marked_are : counts.marked ≡ count_by t.marks entries
+
+-- all entries of what the source told were visited
+pub record VisitedAll (t : Task) (visited : List Entry → Type 0) (source : Seen) (m : Moved) (counts : Counts)
+    : Type 0 where
   pub entries : List Entry
-  pub all : IsAllOf entries input
-  pub number : counts.entries ≡ length entries
-  pub marked : counts.marked ≡ count_by marks entries
-  pub put : PutsLines line m entries
+  pub all : (input : List ℕ) → AreBytes input → source.told ≡ Some input → IsAllOf entries input
+  pub counted : AreCounts t entries counts
+  pub were : visited entries
+  pub put : PutsLines t m entries
 
--- reading ended with this refusal
-pub record WroteSome (line : ℕ → Entry → List ℕ) (input : List ℕ) (m : Moved) (refusal : ReadRefusal) : Type 0 where
+-- reading ended behind these entries with this refusal
+pub record VisitedSome (t : Task) (source source' : Seen) (m : Moved) (refusal : ReadRefusal) : Type 0 where
   pub entries : List Entry
-  pub ends : EndsAt entries input (Err refusal)
-  pub put : PutsLines line m entries
+  pub ends : (input : List ℕ) → AreBytes input → source.told ≡ Some input
+      → EndsAt entries input source'.told (Err refusal)
+  pub put : PutsLines t m entries
 
--- a write failed behind these entries
-pub record WrotePart (line : ℕ → Entry → List ℕ) (input : List ℕ) (m : Moved) : Type 0 where
+-- a write failed at the last of these entries
+pub record VisitFailed (t : Task) (source : Seen) (m : Moved) : Type 0 where
   pub entries : List Entry
-  pub begins : BeginsWithEntries input entries
-  pub put : AppendsPrefix m.taken m.taken' (m.held ++ lines_of line 1 entries)
+  pub begins : (input : List ℕ) → AreBytes input → source.told ≡ Some input → BeginsWithEntries input entries
+  pub put : TakesPart m.sink m.sink' (m.page ++ lines_of t.line 1 entries)
 
--- how the walk over an input may end
-abbrev pub WalkEnds : (ℕ → Entry → List ℕ) → (Entry → Bool) → List ℕ → Moved → Result Counts Stop → Type 0
-WalkEnds line marks input m (Ok counts) = WroteAll line marks input m counts
-WalkEnds line marks input m (Err (stops.Read refusal)) = WroteSome line input m refusal
-WalkEnds line marks input m (Err stops.Write) = WrotePart line input m
+-- how the visits may end
+abbrev pub VisitsEnd : Task → (List Entry → Type 0) → Seen → Seen → Moved → Result Counts Stop → Type 0
+VisitsEnd t visited source source' m (Ok counts) = VisitedAll t visited source m counts
+VisitsEnd t visited source source' m (Err (stops.Read refusal)) = VisitedSome t source source' m refusal
+VisitsEnd t visited source source' m (Err stops.Write) = VisitFailed t source m
 
--- a walk over all entries has left the source at its end
-abbrev pub ReadsToTheEnd : Result Counts Stop → Option (List ℕ) → Type 0
-ReadsToTheEnd (Ok counts) left = IsAtEnd left
-ReadsToTheEnd (Err stop) left = Unit {0}
+-- visits to all entries have left the source at its end
+abbrev pub ReadsToTheEnd : Result Counts Stop → Seen → Type 0
+ReadsToTheEnd (Ok counts) source = IsAtEnd source.told
+ReadsToTheEnd (Err stop) source = Unit {0}
 
--- a walk ends for a fault of the source or the sink only where its own count rose, and else the count stands
-pub record HasWalkCause (read read' written written' : ℕ) (result : Result Counts Stop) : Type 0 where
-  pub read_fault : result ≡ Err (stops.Read refusals.ReadFault) → Rose read read'
-  pub read_kept : result ≢ Err (stops.Read refusals.ReadFault) → read' ≡ read
-  pub write_fault : result ≡ Err stops.Write → Rose written written'
-  pub write_kept : result ≢ Err stops.Write → written' ≡ written
+-- where a read fault ended the visits one call of the source failed, and else none
+pub record HasWalkCause (source source' : Seen) (result : Result Counts Stop) : Type 0 where
+  pub failed : result ≡ Err (stops.Read refusals.ReadFault) → source'.faults ≡ next_count source.faults
+  pub kept : result ≢ Err (stops.Read refusals.ReadFault) → source'.faults ≡ source.faults

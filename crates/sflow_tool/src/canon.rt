@@ -1,22 +1,20 @@
 // `canon`: a capture anew, each datagram with zero padding.
-ghost use Rattle.std.specs.Prelude.{◌≡◌, ◌≤◌, ◌++◌, [], false, length, take, IfSome, IfOk, vec_len};
-ghost use Rattle.sflow_io.specs.Causes.{HasCause};
-ghost use Rattle.sflow_io.specs.declared.capture.Stage.TheVariants.{Start};
+ghost use Rattle.std.specs.Prelude.{◌≡◌, ◌≤◌, length, take, IfSome, vec_len};
 ghost use Rattle.text_lines.specs.Pages.{Prints};
 ghost use Rattle.wire_spec.specs.Captures.{capture_header, entry_bytes, entry_head};
 ghost use Rattle.command_words.specs.declared.command.Command.TheVariants as commands;
 ghost use Rattle.wire_spec.specs.Spelling.{padded};
 ghost use Rattle.sflow_tool.specs.Canons.{canon_line, canonical, header_alone, header_before};
-ghost use Rattle.sflow_tool.specs.Endings.{Flushed};
+ghost use Rattle.sflow_tool.specs.Outside.{outside};
 ghost use Rattle.sflow_tool.specs.Runs.{Runs};
-ghost use Rattle.sflow_tool.specs.declared.status.Status.TheVariants.{Done};
 
 use crate::Status;
-use crate::ending::{flush, new_room, status_of};
-use crate::walk::{EntryLines, Stop, put_entries};
+use crate::capture::visit_capture;
+use crate::ending::new_room;
+use crate::walk::{Counts, EntryVisitor};
 use datagram_core::write_anew;
 use datagram_views::Datagram;
-use sflow_io::{CaptureReader, Failed, Sink, Source};
+use sflow_io::{Failed, Sink, Source};
 use std::alloc::Global;
 use text_lines::Page;
 use wire_spec::Pad;
@@ -32,15 +30,14 @@ struct CanonicalEntries {
     ghost whole: { vec_len room ≡ 65535 },
 }
 
-impl EntryLines for CanonicalEntries {
-    ghost use Rattle.std.specs.Prelude.{false};
-    ghost use Rattle.sflow_tool.specs.Canons.{canon_line};
+impl EntryVisitor for CanonicalEntries {
+    ghost use Rattle.sflow_tool.specs.Canons.{canon_task};
 
-    ghost line = { λ _ number entry. canon_line number entry };
+    ghost does = { λ _. canon_task };
 
-    ghost marks = { λ _ _. false };
+    ghost visited = { λ _ _. Unit {0} };
 
-    fn put<K: Sink>(
+    fn visit<K: Sink>(
         &mut self,
         page: &mut Page,
         sink: &mut K,
@@ -50,6 +47,19 @@ impl EntryLines for CanonicalEntries {
     ) -> Result<bool, Failed> {
         put_whole(page, sink, &mut self.room, number, at, bytes)?;
         Ok(false)
+    }
+
+    fn finish<K: Sink>(
+        &mut self,
+        page: &mut Page,
+        sink: &mut K,
+        counts: &Counts,
+    ) -> Result<(), Failed> {
+        put_header_alone(page, sink, counts.entries)
+    }
+
+    fn waits(&self) -> bool {
+        false
     }
 }
 
@@ -64,25 +74,22 @@ fn put_whole<K: Sink>(
 ) -> Result<(), Failed>
     requires short { length bytes.now ≤ 65535 }
     requires room { 65535 ≤ length room.old }
-    ensures prints { Prints (K.taken sink.old) (K.taken sink.new) page.old page.new result
+    ensures { Prints (K.seen sink.old) (K.seen sink.new) page.old page.new result
         (canon_line number (record { arrival = at; bytes = bytes.now })) }
-    ensures cause { HasCause (K.faults sink.old) (K.faults sink.new) result }
 {
     put_header_before(page, sink, number)?;
     put_canonical(page, sink, room, at, bytes)
 }
 
 fn put_header<K: Sink>(page: &mut Page, sink: &mut K) -> Result<(), Failed>
-    ensures prints { Prints (K.taken sink.old) (K.taken sink.new) page.old page.new result (capture_header 1) }
-    ensures cause { HasCause (K.faults sink.old) (K.faults sink.new) result }
+    ensures { Prints (K.seen sink.old) (K.seen sink.new) page.old page.new result (capture_header 1) }
 {
     page.put(sink, &HEADER)
 }
 
 // The header, before the entry of number 1.
 fn put_header_before<K: Sink>(page: &mut Page, sink: &mut K, number: u64) -> Result<(), Failed>
-    ensures prints { Prints (K.taken sink.old) (K.taken sink.new) page.old page.new result (header_before number) }
-    ensures cause { HasCause (K.faults sink.old) (K.faults sink.new) result }
+    ensures { Prints (K.seen sink.old) (K.seen sink.new) page.old page.new result (header_before number) }
 {
     if number == 1 {
         put_header(page, sink)
@@ -104,9 +111,8 @@ fn head_of(at: u64, len: u32) -> [u8; 12]
 // An entry, byte by byte.
 fn put_entry<K: Sink>(page: &mut Page, sink: &mut K, at: u64, bytes: &[u8]) -> Result<(), Failed>
     requires { length bytes.now ≤ 65535 }
-    ensures prints { Prints (K.taken sink.old) (K.taken sink.new) page.old page.new result
+    ensures { Prints (K.seen sink.old) (K.seen sink.new) page.old page.new result
         (entry_bytes (record { arrival = at; bytes = bytes.now })) }
-    ensures cause { HasCause (K.faults sink.old) (K.faults sink.new) result }
 {
     page.put(sink, &head_of(at, bytes.len() as u32))?;
     put_padded(page, sink, bytes)
@@ -114,8 +120,7 @@ fn put_entry<K: Sink>(page: &mut Page, sink: &mut K, at: u64, bytes: &[u8]) -> R
 
 // The bytes, and zeros up to a multiple of four.
 fn put_padded<K: Sink>(page: &mut Page, sink: &mut K, bytes: &[u8]) -> Result<(), Failed>
-    ensures prints { Prints (K.taken sink.old) (K.taken sink.new) page.old page.new result (padded bytes.now) }
-    ensures cause { HasCause (K.faults sink.old) (K.faults sink.new) result }
+    ensures { Prints (K.seen sink.old) (K.seen sink.new) page.old page.new result (padded bytes.now) }
 {
     page.put(sink, bytes)?;
     page.put(sink, &[0u8; 4][..(4 - bytes.len() % 4) % 4])
@@ -131,9 +136,8 @@ fn put_canonical<K: Sink>(
 ) -> Result<(), Failed>
     requires short { length bytes.now ≤ 65535 }
     requires room { 65535 ≤ length room.old }
-    ensures prints { Prints (K.taken sink.old) (K.taken sink.new) page.old page.new result
+    ensures { Prints (K.seen sink.old) (K.seen sink.new) page.old page.new result
         (entry_bytes (record { arrival = at; bytes = canonical bytes.now })) }
-    ensures cause { HasCause (K.faults sink.old) (K.faults sink.new) result }
 {
     match write_canonical(bytes, room) {
         Some(len) => put_entry(page, sink, at, &room[..len]),
@@ -164,57 +168,18 @@ fn write_canonical(bytes: &[u8], room: &mut [u8]) -> Option<usize>
 
 // Writes a capture anew, each datagram with zero padding. All memory is taken before the first byte is read.
 pub(crate) fn canon<S: Source, K: Sink>(alloc: Global, source: &mut S, sink: &mut K) -> Status
-    ensures { Runs commands.Canon (S.left source.old) (S.left source.new) (K.taken sink.old) (K.taken sink.new)
-        (S.faults source.old) (S.faults source.new) (K.faults sink.old) (K.faults sink.new) result }
+    ensures { Runs commands.Canon (outside (S.seen source.old) (K.seen sink.old))
+        (outside (S.seen source.new) (K.seen sink.new)) result }
 {
-    let Ok(mut reader) = CaptureReader::open(alloc) else {
-        return Status::Memory;
-    };
     let Ok(room) = new_room(alloc) else {
         return Status::Memory;
     };
-    let mut lines = CanonicalEntries { room };
-    match new_room(alloc) {
-        Ok(mut room) => canon_in(&mut reader, &mut room, &mut lines, source, sink),
-        Err(_) => Status::Memory,
-    }
+    visit_capture(alloc, &mut CanonicalEntries { room }, source, sink)
 }
 
-// The same in this room.
-fn canon_in<S: Source, K: Sink>(
-    reader: &mut CaptureReader,
-    room: &mut [u8],
-    lines: &mut CanonicalEntries,
-    source: &mut S,
-    sink: &mut K,
-) -> Status
-    requires fresh { reader.old ≡ record { stage = Start; held = [] } }
-    requires room { 65535 ≤ length room.old }
-    ensures { Runs commands.Canon (S.left source.old) (S.left source.new) (K.taken sink.old) (K.taken sink.new)
-        (S.faults source.old) (S.faults source.new) (K.faults sink.old) (K.faults sink.new) result }
-{
-    let mut page = Page::new();
-    match put_entries(reader, source, room, lines, &mut page, sink) {
-        Ok(counts) => finish(&mut page, sink, counts.entries),
-        Err(Stop::Read(refusal)) => flush(&mut page, sink, status_of(refusal)),
-        Err(Stop::Write) => Status::WriteFault,
-    }
-}
-
-// The header if there were no entries, and the end of the run.
-fn finish<K: Sink>(page: &mut Page, sink: &mut K, count: u64) -> Status
-    ensures { Flushed (K.taken sink.old) (K.taken sink.new) (page.old ++ header_alone count)
-        (K.faults sink.old) (K.faults sink.new) Done result }
-{
-    match put_header_alone(page, sink, count) {
-        Ok(()) => flush(page, sink, Status::Done),
-        Err(_) => Status::WriteFault,
-    }
-}
-
+// The header if there were no entries.
 fn put_header_alone<K: Sink>(page: &mut Page, sink: &mut K, count: u64) -> Result<(), Failed>
-    ensures prints { Prints (K.taken sink.old) (K.taken sink.new) page.old page.new result (header_alone count) }
-    ensures cause { HasCause (K.faults sink.old) (K.faults sink.new) result }
+    ensures { Prints (K.seen sink.old) (K.seen sink.new) page.old page.new result (header_alone count) }
 {
     if count == 0 {
         put_header(page, sink)

@@ -1,37 +1,36 @@
 // `check`: each entry of a capture that is no datagram.
-ghost use Rattle.std.specs.Prelude.{◌≡◌, ◌≤◌, ◌++◌, [], length, nat_lt, if◌then◌else◌};
-ghost use Rattle.sflow_io.specs.Causes.{HasCause};
-ghost use Rattle.sflow_io.specs.declared.capture.Stage.TheVariants.{Start};
+ghost use Rattle.std.specs.Prelude.{◌≡◌};
 ghost use Rattle.text_lines.specs.Pages.{Prints};
 ghost use Rattle.command_words.specs.declared.command.Command.TheVariants as commands;
-ghost use Rattle.sflow_tool.specs.Checks.{check_line, checked_line, is_faulty, check_status};
-ghost use Rattle.sflow_tool.specs.Endings.{Flushed};
+ghost use Rattle.sflow_tool.specs.Checks.{checked_line};
+ghost use Rattle.sflow_tool.specs.Outside.{outside};
 ghost use Rattle.sflow_tool.specs.Runs.{Runs};
 
 use crate::Status;
-use crate::ending::{flush, new_room, status_of};
+use crate::capture::visit_capture;
 use crate::faults::put_fault;
-use crate::item::{Item, read_item};
-use crate::walk::{Counts, EntryLines, Stop, put_entries};
-use sflow_io::{CaptureReader, Failed, Sink, Source};
+use crate::walk::{Counts, EntryVisitor};
+use datagram_views::Datagram;
+use sflow_io::{Failed, Sink, Source};
 use std::alloc::Global;
 use text_lines::{Page, Piece};
 use wire_spec::Pad;
 
-// A line for each entry that is no datagram under this reading of padding.
+// Puts a line for each entry that is no datagram under this reading of padding, and then counts them.
 #[derive(Clone, Copy, Drop)]
 struct FaultyEntries {
     pad: Pad,
 }
 
-impl EntryLines for FaultyEntries {
-    ghost use Rattle.sflow_tool.specs.Checks.{check_line, is_faulty};
+impl EntryVisitor for FaultyEntries {
+    ghost use Rattle.sflow_tool.specs.Checks.{check_task};
 
-    ghost line = { λ self number entry. check_line self.pad number entry };
+    ghost does = { λ self. check_task self.pad };
 
-    ghost marks = { λ self entry. is_faulty self.pad entry };
+    ghost visited = { λ _ _. Unit {0} };
 
-    fn put<K: Sink>(
+    #[tactic(auto, unfolding(crate::specs::Checks::check_line, crate::specs::Checks::is_faulty))]
+    fn visit<K: Sink>(
         &mut self,
         page: &mut Page,
         sink: &mut K,
@@ -39,13 +38,26 @@ impl EntryLines for FaultyEntries {
         _at: u64,
         bytes: &[u8],
     ) -> Result<bool, Failed> {
-        match read_item(bytes, self.pad) {
-            Item::Datagram(_) => Ok(false),
-            Item::Malformed(fault) => {
+        match Datagram::parse(bytes, self.pad) {
+            Ok(_) => Ok(false),
+            Err(fault) => {
                 put_fault(page, sink, number, &fault)?;
                 Ok(true)
             }
         }
+    }
+
+    fn finish<K: Sink>(
+        &mut self,
+        page: &mut Page,
+        sink: &mut K,
+        counts: &Counts,
+    ) -> Result<(), Failed> {
+        put_counts(page, sink, counts)
+    }
+
+    fn waits(&self) -> bool {
+        false
     }
 }
 
@@ -57,62 +69,16 @@ pub(crate) fn check<S: Source, K: Sink>(
     source: &mut S,
     sink: &mut K,
 ) -> Status
-    ensures { Runs (commands.Check pad) (S.left source.old) (S.left source.new) (K.taken sink.old) (K.taken sink.new)
-        (S.faults source.old) (S.faults source.new) (K.faults sink.old) (K.faults sink.new) result }
+    ensures { Runs (commands.Check pad) (outside (S.seen source.old) (K.seen sink.old))
+        (outside (S.seen source.new) (K.seen sink.new)) result }
 {
-    let Ok(mut reader) = CaptureReader::open(alloc) else {
-        return Status::Memory;
-    };
-    match new_room(alloc) {
-        Ok(mut room) => check_in(&mut reader, &mut room, pad, source, sink),
-        Err(_) => Status::Memory,
-    }
-}
-
-// The same in this room.
-fn check_in<S: Source, K: Sink>(
-    reader: &mut CaptureReader,
-    room: &mut [u8],
-    pad: Pad,
-    source: &mut S,
-    sink: &mut K,
-) -> Status
-    requires fresh { reader.old ≡ record { stage = Start; held = [] } }
-    requires room { 65535 ≤ length room.old }
-    ensures { Runs (commands.Check pad) (S.left source.old) (S.left source.new) (K.taken sink.old) (K.taken sink.new)
-        (S.faults source.old) (S.faults source.new) (K.faults sink.old) (K.faults sink.new) result }
-{
-    let mut page = Page::new();
-    let mut lines = FaultyEntries { pad };
-    match put_entries(reader, source, room, &mut lines, &mut page, sink) {
-        Ok(counts) => finish(&mut page, sink, &counts),
-        Err(Stop::Read(refusal)) => flush(&mut page, sink, status_of(refusal)),
-        Err(Stop::Write) => Status::WriteFault,
-    }
-}
-
-// The last line, and the end of the run.
-fn finish<K: Sink>(page: &mut Page, sink: &mut K, counts: &Counts) -> Status
-    ensures { Flushed (K.taken sink.old) (K.taken sink.new)
-        (page.old ++ checked_line counts.now.entries counts.now.marked)
-        (K.faults sink.old) (K.faults sink.new) (check_status counts.now.marked) result }
-{
-    let status = if counts.marked > 0 {
-        Status::Found
-    } else {
-        Status::Done
-    };
-    match put_counts(page, sink, counts) {
-        Ok(()) => flush(page, sink, status),
-        Err(_) => Status::WriteFault,
-    }
+    visit_capture(alloc, &mut FaultyEntries { pad }, source, sink)
 }
 
 #[tactic(auto, unfolding(crate::specs::Checks::checked_line))]
 fn put_counts<K: Sink>(page: &mut Page, sink: &mut K, counts: &Counts) -> Result<(), Failed>
-    ensures prints { Prints (K.taken sink.old) (K.taken sink.new) page.old page.new result
+    ensures { Prints (K.seen sink.old) (K.seen sink.new) page.old page.new result
         (checked_line counts.now.entries counts.now.marked) }
-    ensures cause { HasCause (K.faults sink.old) (K.faults sink.new) result }
 {
     let pieces = [
         Piece::Text("checked "),

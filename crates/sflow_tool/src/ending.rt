@@ -1,6 +1,5 @@
 // How a run over a capture ends.
-ghost use Rattle.std.specs.Prelude.{◌≡◌, vec_len, IfOk};
-ghost use Rattle.sflow_io.specs.Causes.{HasCause};
+ghost use Rattle.std.specs.Prelude.{◌≡◌, IfOk, true, vec_len};
 ghost use Rattle.sflow_tool.specs.Endings.{Flushed, refusal_status};
 
 use crate::Status;
@@ -31,7 +30,7 @@ pub(crate) fn status_of(refusal: ReadRefusal) -> Status
 
 // Writes what the page holds, and then the run has this status, unless the write fails.
 pub(crate) fn flush<K: Sink>(page: &mut Page, sink: &mut K, status: Status) -> Status
-    ensures { Flushed (K.taken sink.old) (K.taken sink.new) page.old (K.faults sink.old) (K.faults sink.new) status result }
+    ensures { Flushed (K.seen sink.old) (K.seen sink.new) page.old status result }
 {
     match page.flush(sink) {
         Ok(()) => status,

@@ -1,34 +1,38 @@
-// The laws of runs, and of what entries are.
-ghost use Rattle.std.specs.Prelude.{◌≡◌, ◌↔◌, ℕ, List, length, map};
+// The laws of runs, and of what they write.
+ghost use Rattle.std.specs.Prelude.{◌≡◌, ◌↔◌, true, ℕ, List, [], length, map};
 ghost use Rattle.wire_spec.specs.declared.fault.Fault.{Fault};
 ghost use Rattle.wire_spec.specs.declared.pad.Pad.{Pad};
 ghost use Rattle.wire_spec.specs.declared.pad.Pad.TheVariants.{Any, Zero};
 ghost use Rattle.wire_spec.specs.Bytes.{AreBytes};
 ghost use Rattle.wire_spec.specs.Captures.{Capture, Entry};
-ghost use Rattle.wire_spec.specs.Heads.{Head, datagram_tree};
-ghost use Rattle.wire_spec.specs.Shapes.{Tree, Trees};
+ghost use Rattle.wire_spec.specs.Shapes.{Tree};
 ghost use Rattle.wire_spec.specs.Spelling.{spell};
 ghost use Rattle.wire_spec.specs.Whole.{FailsWhole, SpellsWhole};
 ghost use Rattle.datagram_views.specs.Tables.{datagram_read};
 ghost use Rattle.sflow_tool.specs.Canons.{canon_text, canonical, canonical_entries, canonical_entry};
-ghost use Rattle.sflow_tool.specs.Checks.{faulty_count, is_faulty};
-ghost use Rattle.sflow_tool.specs.Items.{item_of, malformed, sound};
+ghost use Rattle.sflow_tool.specs.Checks.{check_line, faulty_count, is_faulty};
+ghost use Rattle.sflow_tool.specs.Faults.{fault_line};
 ghost use Rattle.sflow_tool.specs.Outputs.{Decides};
 ghost use Rattle.command_words.specs.declared.command.Command.{Command};
 ghost use Rattle.sflow_tool.specs.declared.status.Status.{Status};
 
-/// An input makes a run of a command end in one way at most, if no call fails and memory is there.
+/// An input makes a run of a command end in one way, if no call fails and memory is there.
 pub fn one_ending()
-    ensures { (c : Command) (input : List ℕ) (one other : Status) → AreBytes input
+    ensures some { (c : Command) (input : List ℕ) → AreBytes input
+        → (ending : Status) × Decides c input ending }
+    ensures one { (c : Command) (input : List ℕ) (one other : Status) → AreBytes input
         → Decides c input one → Decides c input other → one ≡ other }
 {}
 
-/// An entry is a datagram of the head that its bytes spell, and malformed exactly with the fault that they have.
-pub fn items_are_exact()
-    ensures datagram { (p : Pad) (bytes : List ℕ) (h : Head) (samples : Trees)
-        → SpellsWhole p datagram_read bytes (datagram_tree h samples) → item_of p bytes ≡ sound h }
-    ensures fault { (p : Pad) (bytes : List ℕ) (f : Fault) → AreBytes bytes
-        → (item_of p bytes ≡ malformed f) ↔ FailsWhole p datagram_read bytes f }
+/// `check` writes the line of the fault that the bytes of an entry have, and none where they are a datagram; it counts
+/// the entry as faulty exactly in the first case.
+pub fn check_lines_are_exact()
+    ensures datagram { (p : Pad) (number : ℕ) (e : Entry) (t : Tree) → SpellsWhole p datagram_read e.bytes t
+        → check_line p number e ≡ [] }
+    ensures fault { (p : Pad) (number : ℕ) (e : Entry) (f : Fault) → FailsWhole p datagram_read e.bytes f
+        → check_line p number e ≡ fault_line number f }
+    ensures faulty { (p : Pad) (e : Entry) → AreBytes e.bytes
+        → (is_faulty p e ≡ true) ↔ ((f : Fault) × FailsWhole p datagram_read e.bytes f) }
 {}
 
 /// What `canon` makes of an entry: a datagram is spelled with zero padding, and other bytes stay. It has as many bytes

@@ -2,10 +2,10 @@
 #![tactic(auto)]
 
 mod canon;
+mod capture;
 mod check;
 mod ending;
 mod faults;
-mod item;
 mod laws;
 mod replay;
 mod report;
@@ -17,7 +17,8 @@ mod walk;
 pub use command_words::Command;
 pub use flow_collector::{Limits, Seeds};
 pub use laws::{
-    canon_is_final, canon_pads_with_zeros, canonical_bytes_are_exact, items_are_exact, one_ending,
+    canon_is_final, canon_pads_with_zeros, canonical_bytes_are_exact, check_lines_are_exact,
+    one_ending,
 };
 pub use sflow_io::{Failed, InputSource, MemorySink, MemorySource, OutputSink, Sink, Source};
 pub use status::{Line, Status};

@@ -1,30 +1,28 @@
 // `show`: the lines of each entry of a capture.
-ghost use Rattle.std.specs.Prelude.{◌≡◌, ◌≤◌, [], false, length};
-ghost use Rattle.sflow_io.specs.declared.capture.Stage.TheVariants.{Start};
 ghost use Rattle.command_words.specs.declared.command.Command.TheVariants as commands;
+ghost use Rattle.sflow_tool.specs.Outside.{outside};
 ghost use Rattle.sflow_tool.specs.Runs.{Runs};
 
 use crate::Status;
-use crate::ending::{flush, new_room, status_of};
-use crate::walk::{EntryLines, Stop, put_entries};
-use sflow_io::{CaptureReader, Failed, Sink, Source};
+use crate::capture::visit_capture;
+use crate::walk::{Counts, EntryVisitor};
+use sflow_io::{Failed, Sink, Source};
 use show_lines::put_entry;
 use std::alloc::Global;
 use text_lines::Page;
 
-// The lines of an entry, whatever it is.
+// Puts the lines of an entry, whatever it is.
 #[derive(Clone, Copy, Drop)]
 struct ShownEntries;
 
-impl EntryLines for ShownEntries {
-    ghost use Rattle.std.specs.Prelude.{false};
-    ghost use Rattle.show_lines.specs.Shown.{entry_text};
+impl EntryVisitor for ShownEntries {
+    ghost use Rattle.sflow_tool.specs.Shows.{show_task};
 
-    ghost line = { λ _ number entry. entry_text number entry };
+    ghost does = { λ _. show_task };
 
-    ghost marks = { λ _ _. false };
+    ghost visited = { λ _ _. Unit {0} };
 
-    fn put<K: Sink>(
+    fn visit<K: Sink>(
         &mut self,
         page: &mut Page,
         sink: &mut K,
@@ -35,38 +33,25 @@ impl EntryLines for ShownEntries {
         put_entry(page, sink, number, at, bytes)?;
         Ok(false)
     }
+
+    fn finish<K: Sink>(
+        &mut self,
+        _page: &mut Page,
+        _sink: &mut K,
+        _counts: &Counts,
+    ) -> Result<(), Failed> {
+        Ok(())
+    }
+
+    fn waits(&self) -> bool {
+        false
+    }
 }
 
 // Shows each entry of a capture. All memory is taken before the first byte is read.
 pub(crate) fn show<S: Source, K: Sink>(alloc: Global, source: &mut S, sink: &mut K) -> Status
-    ensures { Runs commands.Show (S.left source.old) (S.left source.new) (K.taken sink.old) (K.taken sink.new)
-        (S.faults source.old) (S.faults source.new) (K.faults sink.old) (K.faults sink.new) result }
+    ensures { Runs commands.Show (outside (S.seen source.old) (K.seen sink.old))
+        (outside (S.seen source.new) (K.seen sink.new)) result }
 {
-    let Ok(mut reader) = CaptureReader::open(alloc) else {
-        return Status::Memory;
-    };
-    match new_room(alloc) {
-        Ok(mut room) => show_in(&mut reader, &mut room, source, sink),
-        Err(_) => Status::Memory,
-    }
-}
-
-// The same in this room.
-fn show_in<S: Source, K: Sink>(
-    reader: &mut CaptureReader,
-    room: &mut [u8],
-    source: &mut S,
-    sink: &mut K,
-) -> Status
-    requires fresh { reader.old ≡ record { stage = Start; held = [] } }
-    requires room { 65535 ≤ length room.old }
-    ensures { Runs commands.Show (S.left source.old) (S.left source.new) (K.taken sink.old) (K.taken sink.new)
-        (S.faults source.old) (S.faults source.new) (K.faults sink.old) (K.faults sink.new) result }
-{
-    let mut page = Page::new();
-    match put_entries(reader, source, room, &mut ShownEntries, &mut page, sink) {
-        Ok(_) => flush(&mut page, sink, Status::Done),
-        Err(Stop::Read(refusal)) => flush(&mut page, sink, status_of(refusal)),
-        Err(Stop::Write) => Status::WriteFault,
-    }
+    visit_capture(alloc, &mut ShownEntries, source, sink)
 }

@@ -1,8 +1,11 @@
 ghost use Rattle.std.specs.Prelude.{◌≡◌, ◌⊎◌, ◌↔◌, ℕ, List, None, Some, map, string_bytes};
-ghost use Rattle.sflow_io.specs.Causes.{Rose};
+ghost use Rattle.sflow_io.specs.Seen.{Rose};
 ghost use Rattle.wire_spec.specs.Bytes.{AreBytes};
+ghost use Rattle.collector_views.specs.Limits.{AreLawful};
+ghost use Rattle.collector_views.specs.declared.limits.Limits.{Limits};
 ghost use Rattle.command_words.specs.Commands.{command_of};
 ghost use Rattle.sflow_tool.specs.Outputs.{Decides};
+ghost use Rattle.sflow_tool.specs.Outside.{outside};
 ghost use Rattle.sflow_tool.specs.Runs.{Runs};
 ghost use Rattle.command_words.specs.declared.command.Command.{Command};
 ghost use Rattle.sflow_tool.specs.declared.status.Status.{Status as Ending};
@@ -12,7 +15,7 @@ use crate::canon::canon;
 use crate::check::check;
 use crate::replay::replay;
 use crate::show::show;
-use command_words::{Command as Asked, WordsRefusal, limits_are_lawful, read_words};
+use command_words::{Command as Asked, WordsRefusal, read_words};
 use flow_collector::Seeds;
 use sflow_io::{Sink, Source};
 use std::alloc::Global;
@@ -40,23 +43,40 @@ pub fn run<S: Source, K: Sink>(
 
     // What the command that they name does.
     ensures runs { (c : Command) → command_of (map string_bytes words.now) ≡ Some c
-        → Runs c (S.left source.old) (S.left source.new) (K.taken sink.old) (K.taken sink.new)
-        (S.faults source.old) (S.faults source.new) (K.faults sink.old) (K.faults sink.new) result }
+        → Runs c (outside (S.seen source.old) (K.seen sink.old))
+        (outside (S.seen source.new) (K.seen sink.new)) result }
 
     // Where no count of faults rose, the input alone decides, but for want of memory.
     ensures complete { (c : Command) (input : List ℕ) (ending : Ending)
         → command_of (map string_bytes words.now) ≡ Some c
-        → AreBytes input → S.left source.old ≡ Some input → Decides c input ending
-        → ¬ Rose (S.faults source.old) (S.faults source.new) → ¬ Rose (K.faults sink.old) (K.faults sink.new)
+        → AreBytes input → (S.seen source.old).told ≡ Some input → Decides c input ending
+        → ¬ Rose (S.seen source.old).faults (S.seen source.new).faults
+        → ¬ Rose (K.seen sink.old).faults (K.seen sink.new).faults
         → (result ≡ ending) ⊎ (result ≡ Status.Memory) }
 {
-    limits_are_lawful();
     match read_words(alloc, words) {
-        Ok(Asked::Replay { limits }) => replay(alloc, limits, seeds, source, sink),
-        Ok(Asked::Show) => show(alloc, source, sink),
-        Ok(Asked::Check { pad }) => check(alloc, pad, source, sink),
-        Ok(Asked::Canon) => canon(alloc, source, sink),
+        Ok(command) => perform(alloc, command, seeds, source, sink),
         Err(WordsRefusal::Usage) => Status::Usage,
         Err(WordsRefusal::Memory) => Status::Memory,
+    }
+}
+
+// Does what the command says.
+fn perform<S: Source, K: Sink>(
+    alloc: Global,
+    command: Asked,
+    seeds: Seeds,
+    source: &mut S,
+    sink: &mut K,
+) -> Status
+    requires { (limits : Limits) → command ≡ Asked.Replay limits → AreLawful limits }
+    ensures { Runs command (outside (S.seen source.old) (K.seen sink.old))
+        (outside (S.seen source.new) (K.seen sink.new)) result }
+{
+    match command {
+        Asked::Replay { limits } => replay(alloc, limits, seeds, source, sink),
+        Asked::Show => show(alloc, source, sink),
+        Asked::Check { pad } => check(alloc, pad, source, sink),
+        Asked::Canon => canon(alloc, source, sink),
     }
 }

@@ -1,5 +1,9 @@
+use Rattle.sflow_tool.proofs.EveryEnding.{every_ending}
 use Rattle.sflow_tool.proofs.OneEnding.{one_ending}
 use Rattle.sflow_tool.proofs.laws.one_ending.Goals as goal
 
-pub returns : goal.returns
-returns c = λ command input one other are first second. one_ending command input one other first second
+pub returns-clause-some : goal.returns-clause-some
+returns-clause-some c command input are = every_ending command input are
+
+pub returns-clause-one : goal.returns-clause-one
+returns-clause-one c = λ command input one other are first second. one_ending command input one other first second

@@ -3,21 +3,21 @@ use Rattle.text_lines.proofs.PageLaws.{prints_first, prints_same, prints_second}
 use Rattle.report_lines.specs.Reports.{end_text, report_text}
 use Rattle.sflow_tool.proofs.report.put_report.Goals as goal
 
-pub returns-in_err-put_streams-clause-prints : goal.returns-in_err-put_streams-clause-prints
+pub returns-in_err-put_streams : goal.returns-in_err-put_streams
 unfolding report_text
-returns-in_err-put_streams-clause-prints g c = λ l items stands.
-    prints_first _ _ _ _ _ _ _ _ c.from_residual.ensures.1 (c.in_err-put_streams.ensures.prints l items stands)
+returns-in_err-put_streams g c = λ l items stands.
+    prints_first _ _ _ _ _ _ _ _ c.from_residual.ensures.1 (c.in_err-put_streams.ensures l items stands)
 
-pub returns-in_err-put_sources-clause-prints : goal.returns-in_err-put_sources-clause-prints
+pub returns-in_err-put_sources : goal.returns-in_err-put_sources
 unfolding report_text
-returns-in_err-put_sources-clause-prints g c = λ l items stands.
-    prints_second _ _ _ _ _ _ _ _ _ (c.in_ok-put_streams.ensures.prints l items stands)
+returns-in_err-put_sources g c = λ l items stands.
+    prints_second _ _ _ _ _ _ _ _ _ (c.in_ok-put_streams.ensures l items stands)
     (prints_first _ _ _ _ _ _ _ _ c.from_residual-in_err-put_sources.ensures.1
-    (c.in_err-put_sources.ensures.prints l items stands))
+    (c.in_err-put_sources.ensures l items stands))
 
-pub returns-clause-prints : goal.returns-clause-prints
+pub returns : goal.returns
 unfolding report_text
-returns-clause-prints g c = λ l items stands.
-    prints_second _ _ _ _ _ _ _ _ _ (c.in_ok-put_streams.ensures.prints l items stands)
-    (prints_second _ _ _ _ _ _ _ _ _ (c.in_ok-put_sources.ensures.prints l items stands)
-    (prints_same _ _ _ _ _ _ _ (ap end_text (c.totals.ensures l items stands)) c.put_end.ensures.prints))
+returns g c = λ l items stands.
+    prints_second _ _ _ _ _ _ _ _ _ (c.in_ok-put_streams.ensures l items stands)
+    (prints_second _ _ _ _ _ _ _ _ _ (c.in_ok-put_sources.ensures l items stands)
+    (prints_same _ _ _ _ _ _ _ (ap end_text (c.totals.ensures l items stands)) c.put_end.ensures))

@@ -14,19 +14,17 @@ loop-place-preserved g c =
         put = λ l items stands.
             rw (w.page-is, w.sink-is)
             (source_put _ _ _ _ _ _ _ (books l items).sources c.loop-place.place (source_shown w.in-Some.view)
-            (w.in-Some.ensures.view l items stands) refl (before.put l items stands) w.in_ok-put_source.ensures.prints);
-        kept = rw w.sink-is (w.in_ok-put_source.ensures.cause.kept ∙ before.kept);
+            (w.in-Some.ensures.view l items stands) refl (before.put l items stands) w.in_ok-put_source.ensures);
       }
       | in_default w ↦ record {
         put = λ l items stands.
             absurd (not_there (books l items).sources c.loop-place.place c.source_count-place-end.result c.loop-place-test.true
             (c.source_count-place-end.ensures.sources l items stands ∙ sym (length-map (listed_sources l items) (source_books l items))) (w.in_default.ensures.view l items stands));
-        kept = rw w.sink-is before.kept;
       }
     ]
 
-pub returns-in_err-put_source-clause-prints : goal.returns-in_err-put_source-clause-prints
-returns-in_err-put_source-clause-prints g c = λ l items stands.
+pub returns-in_err-put_source : goal.returns-in_err-put_source
+returns-in_err-put_source g c = λ l items stands.
     source_fails _ _ _ _ _ _ _ (books l items).sources c.loop-place.place (source_shown c.in-Some.view)
     (c.in-Some.ensures.view l items stands) refl (c.loop-place.invariant.put l items stands) _ _
-    c.from_residual.ensures.1 c.in_err-put_source.ensures.prints
+    c.from_residual.ensures.1 c.in_err-put_source.ensures

@@ -10,7 +10,6 @@ use Rattle.sflow_tool.proofs.report.put_sources.Given as goal
 abbrev pub invariant-loop-place : goal.invariant-loop-place
 invariant-loop-place g l = record {
   put : (l' : Room) (items : List Item) → StandsFor l.collector l' items
-      → Puts (g.K.Sink.taken l.initial.sink) (g.K.Sink.taken l.sink) l.initial.page l.page
+      → Puts (g.K.Sink.seen l.initial.sink) (g.K.Sink.seen l.sink) l.initial.page l.page
       (source_texts (take l.place (books l' items).sources));
-  kept : g.K.Sink.faults l.sink ≡ g.K.Sink.faults l.initial.sink;
 }

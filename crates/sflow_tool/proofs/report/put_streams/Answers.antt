@@ -14,19 +14,17 @@ loop-place-preserved g c =
         put = λ l items stands.
             rw (w.page-is, w.sink-is)
             (stream_put _ _ _ _ _ _ _ (books l items).streams c.loop-place.place (stream_shown w.in-Some.view)
-            (w.in-Some.ensures.view l items stands) refl (before.put l items stands) w.in_ok-put_stream.ensures.prints);
-        kept = rw w.sink-is (w.in_ok-put_stream.ensures.cause.kept ∙ before.kept);
+            (w.in-Some.ensures.view l items stands) refl (before.put l items stands) w.in_ok-put_stream.ensures);
       }
       | in_default w ↦ record {
         put = λ l items stands.
             absurd (not_there (books l items).streams c.loop-place.place c.stream_count-place-end.result c.loop-place-test.true
             (c.stream_count-place-end.ensures.streams l items stands ∙ sym (length-map (listed_streams l items) (stream_books l items))) (w.in_default.ensures.view l items stands));
-        kept = rw w.sink-is before.kept;
       }
     ]
 
-pub returns-in_err-put_stream-clause-prints : goal.returns-in_err-put_stream-clause-prints
-returns-in_err-put_stream-clause-prints g c = λ l items stands.
+pub returns-in_err-put_stream : goal.returns-in_err-put_stream
+returns-in_err-put_stream g c = λ l items stands.
     stream_fails _ _ _ _ _ _ _ (books l items).streams c.loop-place.place (stream_shown c.in-Some.view)
     (c.in-Some.ensures.view l items stands) refl (c.loop-place.invariant.put l items stands) _ _
-    c.from_residual.ensures.1 c.in_err-put_stream.ensures.prints
+    c.from_residual.ensures.1 c.in_err-put_stream.ensures

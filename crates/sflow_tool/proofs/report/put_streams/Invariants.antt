@@ -10,7 +10,6 @@ use Rattle.sflow_tool.proofs.report.put_streams.Given as goal
 abbrev pub invariant-loop-place : goal.invariant-loop-place
 invariant-loop-place g l = record {
   put : (l' : Room) (items : List Item) → StandsFor l.collector l' items
-      → Puts (g.K.Sink.taken l.initial.sink) (g.K.Sink.taken l.sink) l.initial.page l.page
+      → Puts (g.K.Sink.seen l.initial.sink) (g.K.Sink.seen l.sink) l.initial.page l.page
       (stream_texts 1 (take l.place (books l' items).streams));
-  kept : g.K.Sink.faults l.sink ≡ g.K.Sink.faults l.initial.sink;
 }

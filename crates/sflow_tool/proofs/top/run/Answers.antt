@@ -1,6 +1,6 @@
-use Rattle.std.proofs.Common.{◌≡◌, Some, sym, ap, subst, ◌∙◌}
+use Rattle.std.proofs.Common.{◌≡◌, Some, map, string_bytes, sym, ap, subst, ◌∙◌}
 use Rattle.command_words.specs.declared.command.Command.{Command}
-use Rattle.command_words.specs.declared.command.Command.TheVariants.{Replay, Show, Check, Canon}
+use Rattle.command_words.proofs.Ranges.{limits_within}
 use Rattle.sflow_tool.specs.Outputs.{Decides}
 use Rattle.sflow_tool.proofs.Completed.{completed}
 use Rattle.sflow_tool.proofs.top.run.Goals as goal
@@ -8,35 +8,12 @@ use Rattle.sflow_tool.proofs.top.run.Goals as goal
 same_command : (c d : Command) → Some c ≡ Some d → c ≡ d
 same_command c d e = cc
 
-pub returns-in-Ok-Replay-clause-complete : goal.returns-in-Ok-Replay-clause-complete
-returns-in-Ok-Replay-clause-complete g c = λ command input ending words are told decides no_read no_write.
-    let replays : Command = Replay c.in-Ok-Replay.limits in
-    let same : command ≡ replays =
-    same_command command replays
-    (sym words ∙ c.in-Ok-Replay.ensures.command ∙ ap (λ (d : Command). Some d) c.in-Ok-Replay.field-0-is) in
-    completed replays input _ _ _ _ _ _ _ _ _ _ c.replay.ensures are told
-    (subst (λ (d : Command). Decides d input ending) same decides) no_read no_write
+pub perform-requires : goal.perform-requires
+perform-requires g c = λ limits is.
+    limits_within (map string_bytes c.args.words.now) limits (c.in-Ok.ensures.command ∙ ap (λ (d : Command). Some d) is)
 
-pub returns-in-Ok-Show-clause-complete : goal.returns-in-Ok-Show-clause-complete
-returns-in-Ok-Show-clause-complete g c = λ command input ending words are told decides no_read no_write.
-    let same : command ≡ Show =
-    same_command command Show
-    (sym words ∙ c.in-Ok-Show.ensures.command ∙ ap (λ (d : Command). Some d) c.in-Ok-Show.field-0-is) in
-    completed Show input _ _ _ _ _ _ _ _ _ _ c.show.ensures are told
-    (subst (λ (d : Command). Decides d input ending) same decides) no_read no_write
-
-pub returns-in-Ok-Check-clause-complete : goal.returns-in-Ok-Check-clause-complete
-returns-in-Ok-Check-clause-complete g c = λ command input ending words are told decides no_read no_write.
-    let same : command ≡ Check c.in-Ok-Check.pad =
-    same_command command (Check c.in-Ok-Check.pad)
-    (sym words ∙ c.in-Ok-Check.ensures.command ∙ ap (λ (d : Command). Some d) c.in-Ok-Check.field-0-is) in
-    completed (Check c.in-Ok-Check.pad) input _ _ _ _ _ _ _ _ _ _ c.check.ensures are told
-    (subst (λ (d : Command). Decides d input ending) same decides) no_read no_write
-
-pub returns-in-Ok-Canon-clause-complete : goal.returns-in-Ok-Canon-clause-complete
-returns-in-Ok-Canon-clause-complete g c = λ command input ending words are told decides no_read no_write.
-    let same : command ≡ Canon =
-    same_command command Canon
-    (sym words ∙ c.in-Ok-Canon.ensures.command ∙ ap (λ (d : Command). Some d) c.in-Ok-Canon.field-0-is) in
-    completed Canon input _ _ _ _ _ _ _ _ _ _ c.canon.ensures are told
+pub returns-in-Ok-clause-complete : goal.returns-in-Ok-clause-complete
+returns-in-Ok-clause-complete g c = λ command input ending words are told decides no_read no_write.
+    let same : command ≡ c.in-Ok.command = same_command command c.in-Ok.command (sym words ∙ c.in-Ok.ensures.command) in
+    completed c.in-Ok.command input _ _ _ _ c.perform.ensures are told
     (subst (λ (d : Command). Decides d input ending) same decides) no_read no_write
