@@ -18,7 +18,7 @@ use Rattle.collector_tables.specs.Keys.{stream_in}
 use Rattle.collector_tables.specs.Tables.{keys_in}
 use Rattle.collector_tables.specs.Takes.{Takes}
 use Rattle.collector_tables.specs.Listed.{StreamStands, StreamsStand}
-use Rattle.collector_tables.proofs.Tables.{each-at, each-set, each-others, each-push, keys-set, keys-push}
+use Rattle.collector_tables.proofs.Tables.{among-at, each-at, each-set, each-others, each-push, keys-length, keys-set, keys-push}
 
 own-other : (d : Datagram) (items : List Item) (t : Stream) → same_stream t (stream_of d) ≡ false
     → own t items ≡ own t (Got d ∷ items)
@@ -29,35 +29,6 @@ own-this : (d : Datagram) (items : List Item) (t : Stream) → t ≡ stream_of d
 own-this d items t this =
     let found : same_stream t (stream_of d) ≡ true = ap (same_stream t) (sym this) ∙ stream-same.self t in
     ap (λ b. cond b (d ∷ own t items) (own t items)) (sym found)
-
-among-at : (entries : List (StreamKey × StreamState)) (place : ℕ) (k : StreamKey) (v : StreamState)
-    → slice_get entries place ≡ Some (k, v) → among same_stream (keys_in stream_in entries) (stream_in k) ≡ true
-among-at [] place k v at = absurd (true≢false (ap is_none at))
-  where
-    is_none : Option (StreamKey × StreamState) → Bool
-    is_none None = true
-    is_none (Some x) = false
-among-at (e ∷ more) zero k v at =
-    let same_key : e.0 ≡ k = cc in
-    let here : same_stream (stream_in k) (stream_in e.0) ≡ true =
-    ap (λ x. same_stream (stream_in k) (stream_in x)) same_key ∙ stream-same.self (stream_in k) in
-    ap (λ b. b || among same_stream (keys_in stream_in more) (stream_in k)) here
-among-at (e ∷ more) (suc n) k v at =
-    later (same_stream (stream_in k) (stream_in e.0)) (among same_stream (keys_in stream_in more) (stream_in k))
-    (among-at more n k v at)
-  where
-    later : (a b : Bool) → b ≡ true → (a || b) ≡ true
-    later true b h = refl
-    later false b h = h
-
--- the boots of the stream at a place
-pub boots-at : (l : Limits) (entries : List (StreamKey × StreamState)) (items : List Item) (place : ℕ) (k : StreamKey)
-    (v : StreamState) (stream : Stream) → slice_get entries place ≡ Some (k, v) → stream_in k ≡ stream
-    → StreamsStand l entries items → v.ledger.boot ≡ length (stream_boots l stream items)
-boots-at l entries items place k v stream at this st =
-    let own_stands = each-at stream_in (StreamStands l items) entries place k v at st.each in
-    own_stands.stands.boots_are
-    ∙ (λ j. length (boots stamp_of l.boot_slack (own_stands.width j) (own (this j) items)))
 
 module _ (l : Limits) (entries : List (StreamKey × StreamState)) (items : List Item) (d : Datagram) where
   -- a stream goes on for one that isn't its own
@@ -75,7 +46,7 @@ module _ (l : Limits) (entries : List (StreamKey × StreamState)) (items : List 
   listed-at place k was at this st =
       let P : List Stream → Type 0 = λ keys. among same_stream keys (stream_of d) ≡ true in
       subst P st.keys_are
-      (ap (among same_stream (keys_in stream_in entries)) (sym this) ∙ among-at entries place k was at)
+      (ap (among same_stream (keys_in stream_in entries)) (sym this) ∙ among-at stream_in same_stream stream-same entries place k was at)
 
   -- a datagram of the stream at a place
   pub known-stands : (place : ℕ) (k : StreamKey) (was now : StreamState) (arrival uptime sequence : ℕ) (answer : Taken)
@@ -128,11 +99,7 @@ module _ (l : Limits) (entries : List (StreamKey × StreamState)) (items : List 
       subst P st.keys_are (ap (among same_stream (keys_in stream_in entries)) (sym this) ∙ none)
 
   length-of : StreamsStand l entries items → length entries ≡ length (listed_streams l items)
-  length-of st = sym (keys-length entries) ∙ ap length st.keys_are
-    where
-      keys-length : (es : List (StreamKey × StreamState)) → length (keys_in stream_in es) ≡ length es
-      keys-length [] = refl
-      keys-length (e ∷ more) = ap suc (keys-length more)
+  length-of st = sym (keys-length stream_in same_stream entries) ∙ ap length st.keys_are
 
   nothing-came : (k : StreamKey) → among same_stream (keys_in stream_in entries) (stream_in k) ≡ false
       → stream_in k ≡ stream_of d → length entries < l.streams → StreamsStand l entries items

@@ -1,13 +1,13 @@
 -- A table of sources, the samples for which it stands, the LATEST FIRST, and what came of each source in each boot of
 -- its stream.
-use Rattle.std.specs.Prelude.{◌≡◌, ℕ, cond, List, [], ◌∷◌}
-use Rattle.books_spec.specs.Items.{Reading, Source}
+use Rattle.std.specs.Prelude.{◌≡◌, ℕ, ◌<◌, cond, List, [], ◌∷◌, length}
+use Rattle.books_spec.specs.Items.{Reading, Stream, Source}
 use Rattle.books_spec.specs.Listing.{same_source, listed}
 use Rattle.stream_books.specs.Sources.{StandsFor, is_flow, width_of}
 use Rattle.stream_books.specs.declared.source.SourceRecord.{SourceRecord}
 use Rattle.collector_tables.specs.declared.keys.SourceKey.{SourceKey}
 use Rattle.collector_tables.specs.Keys.{source_in}
-use Rattle.collector_tables.specs.Tables.{Holds}
+use Rattle.collector_tables.specs.Tables.{Each, Holds}
 
 -- no boot has a reading
 abbrev pub AreEmpty : {X : Type 0} → List (List X) → Type 0
@@ -29,7 +29,13 @@ pub record SourceStands (width : ℕ) (boots_of : Source → List (List Reading)
   pub width_is : width_of s ≡ width
   pub stands : StandsFor s (boots_of source)
 
--- the table lists the first so many of the sources that arrived, and stands for what came of each
-abbrev pub SourcesStand : ℕ → ℕ → List (SourceKey × SourceRecord) → List Source → (Source → List (List Reading)) → Type 0
-SourcesStand limit width entries arrived boots_of =
-    Holds source_in (SourceStands width boots_of) entries (listed same_source limit arrived)
+-- the stream of each key is one of so many
+abbrev pub ArePlaced : ℕ → List (SourceKey × SourceRecord) → Type 0
+ArePlaced count entries = Each (λ (k : SourceKey). k) (λ k s. k.stream < count) entries
+
+-- the table lists the first so many of the sources that arrived, and stands for what came of each; its keys are
+-- those of the sources where these streams stand at their places
+pub record SourcesStand (streams : List Stream) (limit width : ℕ) (entries : List (SourceKey × SourceRecord))
+    (arrived : List Source) (boots_of : Source → List (List Reading)) : Type 0 where
+  pub placed : ArePlaced (length streams) entries
+  pub table : Holds (source_in streams) (SourceStands width boots_of) entries (listed same_source limit arrived)

@@ -1,7 +1,7 @@
 -- What one more datagram makes of what is kept of its stream.
-use Rattle.std.specs.Prelude.{◌≡◌, ℕ, ◌+◌, ◌≤◌, List, ◌∷◌}
+use Rattle.std.specs.Prelude.{◌≡◌, ℕ, ◌+◌, List, ◌∷◌}
 use Rattle.count_spec.specs.Boots.{boot_place, boots}
-use Rattle.books_spec.specs.Items.{Datagram, stamp_of, Stream}
+use Rattle.books_spec.specs.Items.{Datagram, stamp_of}
 use Rattle.books_spec.specs.Books.{taken_at}
 use Rattle.stream_books.specs.Streams.{StreamState, StandsFor, IsAt}
 use Rattle.stream_books.specs.Taken.{taken_in_books}
@@ -16,7 +16,3 @@ pub record Takes (slack arrival uptime sequence : ℕ) (was now : StreamState) (
       (boots stamp_of slack was.ledger.width ds) d) (boots stamp_of slack was.ledger.width ds) sequence
   pub width : now.ledger.width ≡ was.ledger.width
   pub taken : now.ledger.entered + now.stale ≡ was.ledger.entered + was.stale + 1
-
--- so many datagrams of the stream were taken at most
-abbrev pub HasTaken : ℕ → Stream → StreamState → Type 0
-HasTaken n stream s = s.ledger.entered + s.stale ≤ n
