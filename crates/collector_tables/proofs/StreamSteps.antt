@@ -3,16 +3,16 @@ use Rattle.std.proofs.Common.{◌≡◌, ℕ, zero, suc, ◌<◌, ◌≤◌, Boo
 use Rattle.std.specs.Prelude.{slice_get}
 use Rattle.indexmap.specs.IndexMap.{set_value_at}
 use Rattle.count_spec.specs.Boots.{boot_place, boots}
-use Rattle.books_spec.specs.Items.{Datagram, stamp_of, Item, Got, Stream, stream_of, Limits}
+use Rattle.books_spec.specs.Items.{Datagram, stamp_of, Item, Got, Stream, stream_of}
+use Rattle.books_spec.specs.declared.limits.Limits.{Limits}
 use Rattle.books_spec.specs.Listing.{same_stream, among, AreDistinct, first_arrivals}
-use Rattle.books_spec.specs.Books.{streams_of, listed_streams, own, stream_boots, taken_at, taken_in, taken_now, Unlisted}
-use Rattle.books_spec.specs.Books as books
+use Rattle.books_spec.specs.Books.{streams_of, listed_streams, own, stream_boots, taken_at, taken_in, taken_now}
+use Rattle.books_spec.specs.declared.taken.Taken.TheVariants.{Unlisted}
 use Rattle.books_spec.proofs.Listings.{symmetric, listed-known, listed-new, listed-full, listed-all, listed-distinct, first_arrivals-all}
 use Rattle.books_spec.proofs.Entered.{own-none}
 use Rattle.books_spec.proofs.Keys.{stream-same}
 use Rattle.stream_books.specs.Streams.{StreamState, StandsFor, IsAt}
-use Rattle.stream_books.specs.Taken.{taken_in_books}
-use Rattle.stream_books.specs.declared.taken.Taken.{Taken}
+use Rattle.books_spec.specs.declared.taken.Taken.{Taken}
 use Rattle.collector_tables.specs.declared.keys.StreamKey.{StreamKey}
 use Rattle.collector_tables.specs.Keys.{stream_in}
 use Rattle.collector_tables.specs.Tables.{keys_in}
@@ -77,7 +77,7 @@ module _ (l : Limits) (entries : List (StreamKey × StreamState)) (items : List 
   pub known-answer : (place : ℕ) (k : StreamKey) (was now : StreamState) (arrival uptime sequence : ℕ) (answer : Taken)
       → slice_get entries place ≡ Some (k, was) → stream_in k ≡ stream_of d → IsAt d arrival uptime sequence
       → Takes l.boot_slack arrival uptime sequence was now answer → StreamsStand l entries items
-      → taken_in_books answer ≡ taken_now l items (Got d)
+      → answer ≡ taken_now l items (Got d)
   known-answer place k was now arrival uptime sequence answer at this is takes st =
       let there = listed-at place k was at this st in
       let still : among same_stream (listed_streams l (Got d ∷ items)) (stream_of d) ≡ true =
@@ -124,7 +124,7 @@ module _ (l : Limits) (entries : List (StreamKey × StreamState)) (items : List 
   pub new-stands : (k : StreamKey) (was now : StreamState) (arrival uptime sequence : ℕ) (answer : Taken)
       → among same_stream (keys_in stream_in entries) (stream_in k) ≡ false → length entries < l.streams
       → stream_in k ≡ stream_of d → IsAt d arrival uptime sequence
-      → was.ledger.width ≡ l.datagram_width → StandsFor l.boot_slack was []
+      → was.ledger.marks.width ≡ l.datagram_width → StandsFor l.boot_slack was []
       → Takes l.boot_slack arrival uptime sequence was now answer → StreamsStand l entries items
       → StreamsStand l (entries ++ (k, now) ∷ []) (Got d ∷ items)
   new-stands k was now arrival uptime sequence answer none room this is width opened takes st =
@@ -153,9 +153,9 @@ module _ (l : Limits) (entries : List (StreamKey × StreamState)) (items : List 
   pub new-answer : (k : StreamKey) (was now : StreamState) (arrival uptime sequence : ℕ) (answer : Taken)
       → among same_stream (keys_in stream_in entries) (stream_in k) ≡ false → length entries < l.streams
       → stream_in k ≡ stream_of d → IsAt d arrival uptime sequence
-      → was.ledger.width ≡ l.datagram_width → StandsFor l.boot_slack was []
+      → was.ledger.marks.width ≡ l.datagram_width → StandsFor l.boot_slack was []
       → Takes l.boot_slack arrival uptime sequence was now answer → StreamsStand l entries items
-      → taken_in_books answer ≡ taken_now l items (Got d)
+      → answer ≡ taken_now l items (Got d)
   new-answer k was now arrival uptime sequence answer none room this is width opened takes st =
       let absent = unlisted-in k none this st in
       let empty : own (stream_of d) items ≡ [] =
@@ -198,7 +198,7 @@ module _ (l : Limits) (entries : List (StreamKey × StreamState)) (items : List 
 
   pub full-answer : (k : StreamKey) → among same_stream (keys_in stream_in entries) (stream_in k) ≡ false
       → l.streams ≤ length entries → stream_in k ≡ stream_of d → StreamsStand l entries items
-      → books.Unlisted ≡ taken_now l items (Got d)
+      → Unlisted ≡ taken_now l items (Got d)
   full-answer k none full this st =
       let full_there : l.streams ≤ length (listed_streams l items) =
       let P : ℕ → Type 0 = λ n. l.streams ≤ n in subst P (length-of st) full in

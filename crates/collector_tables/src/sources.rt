@@ -1,12 +1,11 @@
 ghost use Rattle.std.specs.Prelude.{◌≡◌, ℕ, ◌+◌, ◌^◌, ◌≤◌, ◌<◌, ◌++◌, false, List, [], ◌∷◌, map, IfOk, IfNone, IfSome, IsTrue, ◌↔◌, Some, slice_get, length, is_some, if◌then◌else◌};
 ghost use Rattle.indexmap.specs.IndexMap.{set_value_at};
 ghost use Rattle.count_spec.specs.Windows.{answer, counted};
-ghost use Rattle.late_window.specs.Answers.{answer_of};
-ghost use Rattle.books_spec.specs.Items.{Reading, Stream, Source};
+ghost use Rattle.books_spec.specs.Items.{Stream, Source};
+ghost use Rattle.books_spec.specs.declared.reading.SampleReading.{SampleReading};
 ghost use Rattle.books_spec.specs.Books.{mark_in};
 ghost use Rattle.books_spec.specs.Listing.{same_source, among, first_arrivals, unlisted};
 ghost use Rattle.stream_books.specs.Sources.{StandsFor, is_flow, width_of, boot_of, entered_count};
-ghost use Rattle.stream_books.specs.Readings.{reading_in};
 ghost use Rattle.collector_tables.specs.declared.keys.SourceKey.{SourceKey};
 ghost use Rattle.collector_tables.specs.Kinds.{is_flow_kind};
 ghost use Rattle.collector_tables.specs.Keys.{source_in, same_key, IsPlaced};
@@ -16,11 +15,10 @@ ghost use Rattle.collector_tables.specs.Enters.{Enters};
 
 use crate::keys::{SampleKind, SourceKey};
 use indexmap::IndexMap;
-use late_window::Entered;
 use std::alloc::{AllocError, Global};
 use std::hash::RandomState;
 use std::marker::Model;
-use stream_books::{SampleReading, SourceRecord};
+use stream_books::{Entered, SampleReading, SourceRecord};
 
 /// Where a sample was entered, and what was answered.
 #[derive(Clone, Copy, Debug)]
@@ -113,7 +111,7 @@ impl SourceTable {
             → (boot_of was ≤ boot) × (entered_count was < 2 ^ 62) }
         ensures now { (k : SourceKey) (was : SourceRecord) → slice_get self.old.entries place ≡ Some (k, was)
             → (now : SourceRecord) × (self.new.entries ≡ set_value_at self.old.entries place now)
-            × Enters boot (reading_in reading) was now (answer_of result.entered) }
+            × Enters boot reading was now result.entered }
         ensures place { result.place ≡ place }
         ensures limit { self.new.limit ≡ self.old.limit }
     {
@@ -140,23 +138,23 @@ impl SourceTable {
         requires boot_counts { 1 ≤ boot }
         requires ready { (p : ℕ) (was : SourceRecord) → slice_get self.old.entries p ≡ Some (key, was)
             → (boot_of was ≤ boot) × (entered_count was < 2 ^ 62) }
-        ensures stands { (streams : List Stream) (arrived : List Source) (boots_of : Source → List (List Reading))
-            (current : List Reading) (closed : List (List Reading)) → IsPlaced streams key
+        ensures stands { (streams : List Stream) (arrived : List Source) (boots_of : Source → List (List SampleReading))
+            (current : List SampleReading) (closed : List (List SampleReading)) → IsPlaced streams key
             → boots_of (source_in streams key) ≡ current ∷ closed → length closed + 1 ≡ boot
             → (among same_source (first_arrivals same_source arrived) (source_in streams key) ≡ false
             → AreEmpty (current ∷ closed))
             → SourcesStand streams self.old.limit width self.old.entries arrived boots_of
             → SourcesStand streams self.old.limit width self.new.entries (source_in streams key ∷ arrived)
-            (after_reading (source_in streams key) (reading_in reading) boots_of) }
-        ensures answer { (streams : List Stream) (arrived : List Source) (boots_of : Source → List (List Reading))
-            (current : List Reading) (closed : List (List Reading)) → IsPlaced streams key
+            (after_reading (source_in streams key) reading boots_of) }
+        ensures answer { (streams : List Stream) (arrived : List Source) (boots_of : Source → List (List SampleReading))
+            (current : List SampleReading) (closed : List (List SampleReading)) → IsPlaced streams key
             → boots_of (source_in streams key) ≡ current ∷ closed → length closed + 1 ≡ boot
             → (among same_source (first_arrivals same_source arrived) (source_in streams key) ≡ false
             → AreEmpty (current ∷ closed))
             → SourcesStand streams self.old.limit width self.old.entries arrived boots_of
-            → IfSome result (λ r. answer_of r.entered
+            → IfSome result (λ r. r.entered
             ≡ answer width (counted width (map mark_in current)) reading.sequence) }
-        ensures counted { (streams : List Stream) (arrived : List Source) (boots_of : Source → List (List Reading))
+        ensures counted { (streams : List Stream) (arrived : List Source) (boots_of : Source → List (List SampleReading))
             → IsPlaced streams key → SourcesStand streams self.old.limit width self.old.entries arrived boots_of
             → unlisted same_source self.old.limit (source_in streams key ∷ arrived)
             ≡ unlisted same_source self.old.limit arrived + (if is_some result then 0 else 1) }
@@ -188,7 +186,7 @@ impl SourceTable {
         ensures now { (was : SourceRecord) × (now : SourceRecord)
             × (self.new.entries ≡ self.old.entries ++ (key, now) ∷ [])
             × (is_flow was ≡ is_flow_kind key.kind) × (width_of was ≡ width) × StandsFor was []
-            × Enters boot (reading_in reading) was now (answer_of result.entered) }
+            × Enters boot reading was now result.entered }
         ensures place { result.place ≡ length self.old.entries }
         ensures limit { self.new.limit ≡ self.old.limit }
     {

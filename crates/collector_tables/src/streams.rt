@@ -1,6 +1,7 @@
 ghost use Rattle.std.specs.Prelude.{◌≡◌, ℕ, ◌+◌, ◌^◌, ◌≤◌, ◌<◌, ◌++◌, true, false, List, [], ◌∷◌, IfOk, IfNone, IfSome, IsTrue, ◌↔◌, Some, slice_get, length};
 ghost use Rattle.indexmap.specs.IndexMap.{set_value_at};
-ghost use Rattle.books_spec.specs.Items.{Datagram, Item, Got, stream_of, Limits};
+ghost use Rattle.books_spec.specs.Items.{Datagram, Item, Got, stream_of};
+ghost use Rattle.books_spec.specs.declared.limits.Limits.{Limits};
 ghost use Rattle.books_spec.specs.Books.{taken_now};
 ghost use Rattle.books_spec.specs.Listing.{same_stream, among};
 ghost use Rattle.stream_books.specs.Streams.{StreamState, StandsFor, IsAt};
@@ -114,7 +115,7 @@ impl StreamTable {
     ) -> TakenAt
         requires place { place < length self.old.entries }
         requires few { (k : StreamKey) (was : StreamState) → slice_get self.old.entries place ≡ Some (k, was)
-            → was.ledger.entered + was.stale < 2 ^ 62 }
+            → was.ledger.marks.entered + was.stale < 2 ^ 62 }
         ensures now { (k : StreamKey) (was : StreamState) → slice_get self.old.entries place ≡ Some (k, was)
             → (now : StreamState) × (self.new.entries ≡ set_value_at self.old.entries place now)
             × Takes slack arrival uptime sequence was now result.taken × (result.boot ≡ now.ledger.boot) }
@@ -146,7 +147,7 @@ impl StreamTable {
         requires width_from { 1 ≤ width }
         requires width_to { width ≤ 1024 }
         requires few { (p : ℕ) (k : StreamKey) (was : StreamState) → slice_get self.old.entries p ≡ Some (k, was)
-            → was.ledger.entered + was.stale < 2 ^ 62 }
+            → was.ledger.marks.entered + was.stale < 2 ^ 62 }
         ensures stands { (l : Limits) (items : List Item) (d : Datagram) → l.streams ≡ self.old.limit
             → l.datagram_width ≡ width → l.boot_slack ≡ slack → stream_in key ≡ stream_of d
             → IsAt d arrival uptime sequence → StreamsStand l self.old.entries items
@@ -185,7 +186,7 @@ impl StreamTable {
         requires new { among same_stream (keys_in stream_in self.old.entries) (stream_in key) ≡ false }
         ensures now { (was : StreamState) × (now : StreamState)
             × (self.new.entries ≡ self.old.entries ++ (key, now) ∷ [])
-            × (was.ledger.width ≡ width) × ((slack : ℕ) → StandsFor slack was [])
+            × (was.ledger.marks.width ≡ width) × ((slack : ℕ) → StandsFor slack was [])
             × Takes slack arrival uptime sequence was now result.taken × (result.boot ≡ now.ledger.boot) }
         ensures place { result.place ≡ length self.old.entries }
         ensures limit { self.new.limit ≡ self.old.limit }

@@ -13,7 +13,7 @@ take-taken-requires c =
     let entry = entry-of c.self.inside.map.entries c.args.place c.index_mut-stream.result.now
     c.index_mut-stream.ensures.value in
     let R : Table StreamKey StreamState → Type 0 = λ t. (k : StreamKey) (was : StreamState)
-    → slice_get t.entries c.args.place ≡ Some (k, was) → was.ledger.entered + was.stale < 2 ^ 62 in
+    → slice_get t.entries c.args.place ≡ Some (k, was) → was.ledger.marks.entered + was.stale < 2 ^ 62 in
     record { few = subst R (sym c.self.view_is) c.requires.few entry.0 c.index_mut-stream.result.now entry.1 }
 
 pub invariant_of-self : goal.invariant_of-self
