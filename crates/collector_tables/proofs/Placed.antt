@@ -18,7 +18,8 @@ or-parts true b h = absurd (true≢false h)
 or-parts false b h = (refl, h)
 
 module _ {S : Type 0} (same : S → S → Bool) (laws : IsSame same) (none : S) where
-  absent-at : (xs : List S) (x : S) (q : ℕ) → among same xs x ≡ false → q < length xs → same x (get_or xs q none) ≡ false
+  -- a key that is none of these differs from that at each place
+  pub absent-at : (xs : List S) (x : S) (q : ℕ) → among same xs x ≡ false → q < length xs → same x (get_or xs q none) ≡ false
   absent-at [] x q h less = absurd (omega (arith, less))
   absent-at (y ∷ ys) x zero h less = (or-parts (same x y) (among same ys x) h).0
   absent-at (y ∷ ys) x (suc q) h less =

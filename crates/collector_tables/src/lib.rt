@@ -9,3 +9,6 @@ mod streams;
 pub use keys::{SampleKind, SourceKey, StreamKey};
 pub use sources::{EnteredAt, SourceTable};
 pub use streams::{StreamTable, TakenAt};
+
+#[cfg(test)]
+mod tests;

@@ -70,6 +70,12 @@ impl SourceTable {
         self.map.len() >= self.limit as usize
     }
 
+    // How many there is room for in all.
+    #[cfg(test)]
+    pub(crate) fn room(&self) -> usize {
+        self.map.capacity()
+    }
+
     /// How many sources are listed.
     pub fn len(&self) -> usize
         ensures { result ≡ length self.now.entries }

@@ -3,15 +3,23 @@ use Rattle.std.proofs.Common.{◌≡◌, ℕ, suc, ◌+◌, Bool, true, false, c
 use Rattle.std.specs.List.{count_by, filter_map}
 use Rattle.std.proofs.lemmas.Bool.{ltb-true, ltb-false}
 use Rattle.std.proofs.lemmas.List.Folds.{list_any-append}
-use Rattle.count_spec.specs.Windows.{Answer}
-use Rattle.count_spec.specs.Windows as windows
-use Rattle.count_spec.specs.Boots.{BootPlace, Current, Next, Stale, boot_place, placed, with_stale, boots, stale_items}
+use Rattle.count_spec.specs.Windows.{answer, counted}
+use Rattle.count_spec.specs.declared.entered.Entered.{Entered as Answer}
+use Rattle.count_spec.specs.declared.entered.Entered.TheVariants as answers
+use Rattle.count_spec.specs.Boots.{boot_place, placed, with_stale, boots, stale_items}
+use Rattle.count_spec.specs.declared.boot_place.BootPlace.{BootPlace}
+use Rattle.count_spec.specs.declared.boot_place.BootPlace.TheVariants.{Current, Next, Stale}
 use Rattle.count_spec.proofs.Counts.{count_by-cons}
 use Rattle.wire_spec.specs.declared.fault.Fault.{Fault}
-use Rattle.books_spec.specs.Items.{Sample, Datagram, stamp_of, Item, Got, Malformed, Stream, stream_of, Limits}
+use Rattle.books_spec.specs.Items.{Sample, Datagram, stamp_of, Item, Got, Malformed, Stream, stream_of}
+use Rattle.books_spec.specs.declared.limits.Limits.{Limits}
 use Rattle.books_spec.specs.Listing.{same_stream, same_source, among, listed, unlisted}
-use Rattle.books_spec.specs.Books.{is_malformed, FirstFault, fault_after, first_fault, streams_of, listed_streams, own, stream_boots, Taken, First, Repeat, Late, Unlisted, Malformed_entry, Spent, taken_of, taken_at, taken_in, taken_now, entered_in, Entered, source_of, is_other, entered, sources_of, listed_sources, source_boots, Totals, totals}
-use Rattle.books_spec.specs.Books as books
+use Rattle.books_spec.specs.Books.{current_marks, is_malformed, fault_after, first_fault, streams_of, listed_streams, own, stream_boots, taken_of, taken_at, taken_in, taken_now, entered_in, Entered, source_of, is_other, entered, sources_of, listed_sources, source_boots, totals}
+use Rattle.books_spec.specs.declared.taken.Taken.{Taken}
+use Rattle.books_spec.specs.declared.taken.Taken.TheVariants.{First, Repeat, Late, Unlisted, Spent}
+use Rattle.books_spec.specs.declared.taken.Taken.TheVariants as takes
+use Rattle.books_spec.specs.declared.totals.Totals.{Totals}
+use Rattle.books_spec.specs.declared.totals.FirstFault.{FirstFault}
 use Rattle.books_spec.proofs.Listings.{IsSame, listed-keeps, listed-new, listed-full, unlisted-known, unlisted-room, unlisted-full, unlisted-new}
 use Rattle.books_spec.proofs.Keys.{stream-same}
 use Rattle.stream_books.specs.Streams.{StreamState, ShowsStream, StandsFor as KeepsStream}
@@ -29,7 +37,7 @@ use Rattle.flow_collector.proofs.Boots.{entered-none, sources-none, entered-not_
 shows-same : (slack : ℕ) (s : StreamState) (d : Datagram) (xs : List Sample) (ds : List Datagram)
     → KeepsStream slack s (d ∷ ds) → KeepsStream slack s (with_samples d xs ∷ ds)
 shows-same slack s d xs ds st =
-    let w : ℕ = s.ledger.width in
+    let w : ℕ = s.ledger.marks.width in
     let bs : List (List Datagram) = boots stamp_of slack w ds in
     let stale : List Datagram = stale_items stamp_of slack w ds in
     let P : BootPlace → Type 0 = λ p. ShowsStream s (placed p (with_samples d xs) bs) (with_stale p (with_samples d xs) stale) in
@@ -140,12 +148,12 @@ module _ {K : Type 0} (same : K → K → Bool) (laws : IsSame same) where
           more ∙ answered (sym now)
 
 answer-listed : (a : Answer) → is_unlisted (taken_of a) ≡ false
-answer-listed (windows.First place n) = refl
-answer-listed windows.Repeat = refl
-answer-listed windows.Late = refl
+answer-listed (answers.First place n) = refl
+answer-listed answers.Repeat = refl
+answer-listed answers.Late = refl
 
-place-listed : (w : ℕ) (p : BootPlace) (bs : List (List Datagram)) (mark : ℕ) → is_unlisted (taken_at w p bs mark) ≡ false
-place-listed w Current bs mark = answer-listed (windows.answer w (windows.counted w (books.current_marks bs)) mark)
+pub place-listed : (w : ℕ) (p : BootPlace) (bs : List (List Datagram)) (mark : ℕ) → is_unlisted (taken_at w p bs mark) ≡ false
+place-listed w Current bs mark = answer-listed (answer w (counted w (current_marks bs)) mark)
 place-listed w Next bs mark = refl
 place-listed w Stale bs mark = refl
 

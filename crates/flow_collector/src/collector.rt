@@ -129,7 +129,13 @@ impl Collector {
     }
 
     // Takes a datagram as though it had no samples; `None` where its stream isn't listed.
-    fn take_head(&mut self, stream: StreamKey, at: u64, uptime: u32, sequence: u32) -> Option<TakenAt>
+    fn take_head(
+        &mut self,
+        stream: StreamKey,
+        at: u64,
+        uptime: u32,
+        sequence: u32,
+    ) -> Option<TakenAt>
         requires { self.old.totals.entries < most_entries }
         ensures stands { (l : Limits) (items : List Item) (d : Given) → stream_in stream ≡ stream_of d
             → IsAt d at uptime sequence → StandsFor self.old l items

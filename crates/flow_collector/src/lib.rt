@@ -11,3 +11,6 @@ pub use collector::{Collector, Seeds};
 pub use collector_views::{FirstFault, LedgerView, Limits, SourceView, StreamView, Totals};
 pub use refusal::OpenRefusal;
 pub use stream_books::Taken;
+
+#[cfg(test)]
+mod tests;
