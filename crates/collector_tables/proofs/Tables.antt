@@ -101,22 +101,11 @@ module _ {K V S : Type 0} (key : K → S) (same : S → S → Bool) where
       symmetric same laws (key e.0) (key k) (keys-at more n k v (key e.0) at distinct.0) in
       (step (key e.0) e.1 other all.0, each-set laws P Q more n k v w at distinct.1 step new all.1)
 
-  -- what is so at each key goes on, the value at a place being another
+  -- what is so at each key goes on
   pub each-map : (P Q : S → V → Type 0) (entries : List (K × V)) → ((t : S) (u : V) → P t u → Q t u)
       → Each key P entries → Each key Q entries
   each-map P Q [] step all = tt
   each-map P Q (e ∷ more) step all = (step (key e.0) e.1 all.0, each-map P Q more step all.1)
-
-  pub each-put : (P Q : S → V → Type 0) (entries : List (K × V)) (place : ℕ) (k : K) (v w : V)
-      → slice_get entries place ≡ Some (k, v) → ((t : S) (u : V) → P t u → Q t u) → Q (key k) w
-      → Each key P entries → Each key Q (set_value_at entries place w)
-  each-put P Q [] place k v w at step new all = tt
-  each-put P Q (e ∷ more) zero k v w at step new all =
-      let same_key : e.0 ≡ k = cc in
-      let R : K → Type 0 = λ x. Q (key x) w in
-      (subst R (sym same_key) new, each-map P Q more step all.1)
-  each-put P Q (e ∷ more) (suc n) k v w at step new all =
-      (step (key e.0) e.1 all.0, each-put P Q more n k v w at step new all.1)
 
 -- under other names that are the same at each key, the table is the same
 module _ {K V S : Type 0} (key other : K → S) where

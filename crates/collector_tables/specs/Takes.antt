@@ -1,5 +1,5 @@
 -- What one more datagram makes of what is kept of its stream.
-use Rattle.std.specs.Prelude.{◌≡◌, ℕ, ◌+◌, List, ◌∷◌}
+use Rattle.std.specs.Prelude.{◌≡◌, ℕ, List, ◌∷◌}
 use Rattle.count_spec.specs.Boots.{boot_place, boots}
 use Rattle.books_spec.specs.Items.{Datagram, stamp_of}
 use Rattle.books_spec.specs.Books.{taken_at}
@@ -14,4 +14,3 @@ pub record Takes (slack arrival uptime sequence : ℕ) (was now : StreamState) (
       ≡ taken_at was.ledger.marks.width (boot_place stamp_of slack was.ledger.marks.width
       (boots stamp_of slack was.ledger.marks.width ds) d) (boots stamp_of slack was.ledger.marks.width ds) sequence
   pub width : now.ledger.marks.width ≡ was.ledger.marks.width
-  pub taken : now.ledger.marks.entered + now.stale ≡ was.ledger.marks.entered + was.stale + 1

@@ -30,20 +30,20 @@ use Rattle.flow_collector.proofs.Boots.{sources-none, grown-stands, source-boots
 use Rattle.flow_collector.proofs.Counts.{source-stream}
 use Rattle.flow_collector.proofs.Found.{names-stay, places-stay}
 use Rattle.flow_collector.proofs.Lists.{each-listed}
-use Rattle.flow_collector.proofs.Steps.{streams-same, streams-malformed, faulty, totals-malformed, headed, totals-head, totals-not_first}
+use Rattle.flow_collector.proofs.Steps.{streams-same, streams-malformed, with_fault, totals-malformed, with_datagram, totals-head, totals-not_first}
 
 -- ---- a fault
 
 pub reject-stands : (s : CollectorState) (l : Limits) (items : List Item) (f : Fault) (first : Option FirstFault)
     → first ≡ fault_after s.totals.first_fault s.totals.entries (Malformed f) → StandsFor s l items
-    → StandsFor (record s { totals = record (faulty s.totals f) { first_fault = first } }) l (Malformed f ∷ items)
+    → StandsFor (record s { totals = record (with_fault s.totals f) { first_fault = first } }) l (Malformed f ∷ items)
 reject-stands s l items f first is st = record {
   limits_are = st.limits_are;
   stream_limit = st.stream_limit;
   source_limit = st.source_limit;
   streams_stand = streams-malformed l s.streams.entries items f st.streams_stand;
   sources_stand = st.sources_stand;
-  totals_are = (λ j. record (faulty s.totals f) { first_fault = is j }) ∙ ap (λ t. faulty t f) st.totals_are
+  totals_are = (λ j. record (with_fault s.totals f) { first_fault = is j }) ∙ ap (λ t. with_fault t f) st.totals_are
       ∙ totals-malformed l items f;
 }
 
@@ -53,7 +53,7 @@ pub head-stands : (s : CollectorState) (l : Limits) (items : List Item) (d : Dat
     (streams : Table StreamKey StreamState) (t : Taken) (unlisted_now : ℕ) → t ≡ taken_now l items (Got d)
     → unlisted_now ≡ s.totals.unlisted + cond (is_unlisted t) 1 0
     → streams.limit ≡ s.streams.limit → StreamsStand l streams.entries (Got d ∷ items) → StandsFor s l items
-    → StandsFor (record s { streams = streams; totals = headed s.totals unlisted_now }) l
+    → StandsFor (record s { streams = streams; totals = with_datagram s.totals unlisted_now }) l
     (Got (with_samples d []) ∷ items)
 head-stands s l items d streams t unlisted_now answer count limit now st =
     let sources = sources-none l items d in
@@ -83,7 +83,7 @@ head-stands s l items d streams t unlisted_now answer count limit now st =
               }) was.table.each);
         };
       };
-      totals_are = (λ j. headed (st.totals_are j)
+      totals_are = (λ j. with_datagram (st.totals_are j)
           ((count ∙ (λ i. (st.totals_are i).unlisted + cond (is_unlisted (answer i)) 1 0)) j)) ∙ totals-head l items d;
     }
 

@@ -152,10 +152,10 @@ answer-listed (answers.First place n) = refl
 answer-listed answers.Repeat = refl
 answer-listed answers.Late = refl
 
-pub place-listed : (w : ℕ) (p : BootPlace) (bs : List (List Datagram)) (mark : ℕ) → is_unlisted (taken_at w p bs mark) ≡ false
-place-listed w Current bs mark = answer-listed (answer w (counted w (current_marks bs)) mark)
-place-listed w Next bs mark = refl
-place-listed w Stale bs mark = refl
+pub place-listed : (w : ℕ) (p : BootPlace) (bs : List (List Datagram)) (sequence : ℕ) → is_unlisted (taken_at w p bs sequence) ≡ false
+place-listed w Current bs sequence = answer-listed (answer w (counted w (current_marks bs)) sequence)
+place-listed w Next bs sequence = refl
+place-listed w Stale bs sequence = refl
 
 -- Unlisted is answered exactly where the stream isn't listed
 unlisted-answer : (l : Limits) (items : List Item) (d : Datagram)
@@ -180,15 +180,15 @@ no-fault None n d = refl
 no-fault (Some x) n d = refl
 
 -- the counts after a fault
-abbrev pub faulty : Totals → Fault → Totals
-faulty t f = record t {
+abbrev pub with_fault : Totals → Fault → Totals
+with_fault t f = record t {
   entries = t.entries + 1;
   malformed = t.malformed + 1;
   first_fault = fault_after t.first_fault t.entries (Malformed f);
 }
 
 pub totals-malformed : (l : Limits) (items : List Item) (f : Fault)
-    → faulty (totals l items) f ≡ totals l (Malformed f ∷ items)
+    → with_fault (totals l items) f ≡ totals l (Malformed f ∷ items)
 totals-malformed l items f =
     let entries = one-more (length items) in
     let count = count_by-cons is_malformed (Malformed f) items in
@@ -197,11 +197,11 @@ totals-malformed l items f =
     λ j. T (entries j) (malformed j)
 
 -- the counts after a datagram none of whose samples is entered, and so many of streams that aren't listed
-abbrev pub headed : Totals → ℕ → Totals
-headed t unlisted_now = record t { entries = t.entries + 1; unlisted = unlisted_now }
+abbrev pub with_datagram : Totals → ℕ → Totals
+with_datagram t unlisted_now = record t { entries = t.entries + 1; unlisted = unlisted_now }
 
 pub totals-head : (l : Limits) (items : List Item) (d : Datagram)
-    → headed (totals l items) ((totals l items).unlisted + cond (is_unlisted (taken_now l items (Got d))) 1 0)
+    → with_datagram (totals l items) ((totals l items).unlisted + cond (is_unlisted (taken_now l items (Got d))) 1 0)
     ≡ totals l (Got (with_samples d []) ∷ items)
 totals-head l items d =
     let entries = one-more (length items) in

@@ -46,17 +46,17 @@ first-is takes.Malformed e = absurd (true≢false (sym e))
 first-is Spent e = absurd (true≢false (sym e))
 
 -- the datagram that this view is
-abbrev pub given : ℕ → DatagramView → Datagram
-given at d = record { arrival = at; head = d.head; samples = samples_in (frame_trees samples_read d.samples) }
+abbrev pub datagram_at : ℕ → DatagramView → Datagram
+datagram_at at d = record { arrival = at; head = d.head; samples = samples_in (frame_trees samples_read d.samples) }
 
 abbrev pub key_of : DatagramHead → StreamKey
 key_of h = record { agent = h.agent; sub_agent = h.sub_agent }
 
 pub key-stream : (at : ℕ) (d : DatagramView) (h : DatagramHead) → head_of h ≡ d.head
-    → stream_in (key_of h) ≡ stream_of (given at d)
+    → stream_in (key_of h) ≡ stream_of (datagram_at at d)
 key-stream at d h is = ap (λ (x : Head). record { agent = x.agent; sub_agent = x.sub_agent }) is
 
-pub is-at : (at : ℕ) (d : DatagramView) (h : DatagramHead) → head_of h ≡ d.head → IsAt (given at d) at h.uptime h.sequence
+pub is-at : (at : ℕ) (d : DatagramView) (h : DatagramHead) → head_of h ≡ d.head → IsAt (datagram_at at d) at h.uptime h.sequence
 is-at at d h is = (refl, ap (λ (x : Head). x.uptime) (sym is), ap (λ (x : Head). x.sequence) (sym is))
 
 -- where it was found

@@ -242,13 +242,13 @@ impl Collector {
             → option_map stream_shown result ≡ slice_get (books l items).streams place }
         ensures conserved { IfSome result (λ v. v.ledger.issued ≡ v.ledger.received + v.ledger.pending + v.ledger.lost) }
     {
-        let (key, record) = self.streams.get(place)?;
+        let (key, stream) = self.streams.get(place)?;
         Some(StreamView {
             agent: key.agent,
             sub_agent: key.sub_agent,
-            boots: record.boots(),
-            ledger: record.view(),
-            stale: record.stale(),
+            boots: stream.boots(),
+            ledger: stream.view(),
+            stale: stream.stale(),
         })
     }
 

@@ -1,10 +1,9 @@
-use Rattle.std.proofs.Common.{◌≡◌, ◌∙◌, ℕ, ◌<◌, ◌≤◌, false, Some, List, ◌∷◌, length, refl, subst, sym, ap, rules}
+use Rattle.std.proofs.Common.{◌≡◌, ℕ, ◌<◌, ◌≤◌, false, Some, List, ◌∷◌, length, refl, subst, sym, rules}
 use Rattle.std.specs.Prelude.{slice_get}
-use Rattle.books_spec.specs.Items.{Stream}
-use Rattle.books_spec.specs.Listing.{same_source, among}
+use Rattle.books_spec.specs.Listing.{among}
 use Rattle.stream_books.specs.declared.source.SourceRecord.{SourceRecord}
 use Rattle.collector_tables.specs.declared.keys.SourceKey.{SourceKey}
-use Rattle.collector_tables.specs.Keys.{source_in, same_key, IsPlaced}
+use Rattle.collector_tables.specs.Keys.{source_in, same_key}
 use Rattle.collector_tables.specs.Tables.{keys_in}
 use Rattle.collector_tables.specs.Sources.{after_reading, SourcesStand}
 use Rattle.collector_tables.proofs.Places.{same-key, at-set, at-last}

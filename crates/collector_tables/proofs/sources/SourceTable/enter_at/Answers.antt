@@ -34,7 +34,5 @@ returns-clause-now c = rw (← c.self.view_is) (λ k was at.
         answered = c.enter-entered.ensures.answer;
         kind = c.enter-entered.ensures.kind;
         width = c.enter-entered.ensures.width;
-        boot_is = c.enter-entered.ensures.boot;
-        entered = c.enter-entered.ensures.entered;
       }),
     ))

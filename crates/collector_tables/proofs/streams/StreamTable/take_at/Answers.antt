@@ -31,7 +31,6 @@ returns-clause-now c = rw (← c.self.view_is) (λ k was at.
         stands = c.take-taken.ensures.stands;
         answered = c.take-taken.ensures.answer;
         width = c.take-taken.ensures.width;
-        taken = c.take-taken.ensures.taken;
       }),
       c.boots.ensures.value,
     ))

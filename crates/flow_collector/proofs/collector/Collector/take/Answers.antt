@@ -13,7 +13,7 @@ use Rattle.flow_collector.specs.Collectors.{CollectorState, collector_state, Sta
 use Rattle.flow_collector.specs.Steps.{with_samples, Enters, IsFound}
 use Rattle.flow_collector.proofs.Kept.{entries-are}
 use Rattle.flow_collector.proofs.Readings.{datagram-in-tree}
-use Rattle.flow_collector.proofs.Takes.{answered, given, key-stream, is-at, first-is, found-at, may-enter, passes}
+use Rattle.flow_collector.proofs.Takes.{answered, datagram_at, key-stream, is-at, first-is, found-at, may-enter, passes}
 use Rattle.flow_collector.proofs.collector.Collector.take.Goals as goal
 
 -- ---- a datagram of a listed stream that is First
@@ -29,7 +29,7 @@ enter_samples-requires-clause-midway c =
     let room : length v.items < most_entries = omega (arith, number, few) in
     let key = key-stream c.args.at c.args.datagram.now c.head-head.result c.head-head.ensures in
     let at = is-at c.args.at c.args.datagram.now c.head-head.result c.head-head.ensures in
-    let d : Datagram = given c.args.at c.args.datagram.now in
+    let d : Datagram = datagram_at c.args.at c.args.datagram.now in
     let answer = ap answer_in_books (sym c.in-Some.is) ∙ c.take_head.ensures.answer s.limits v.items d key at st in
     let found = found-at s.limits v.items d c.take_head.result c.in-Some.found c.in-Some.is
     (c.take_head.ensures.found s.limits v.items d key at st) in
@@ -41,7 +41,7 @@ pub returns-then-is_entered-clause-stands : goal.returns-then-is_entered-clause-
 returns-then-is_entered-clause-stands c = λ l items few st.
     let key = key-stream c.args.at c.args.datagram.now c.head-head.result c.head-head.ensures in
     let at = is-at c.args.at c.args.datagram.now c.head-head.result c.head-head.ensures in
-    let d : Datagram = given c.args.at c.args.datagram.now in
+    let d : Datagram = datagram_at c.args.at c.args.datagram.now in
     let F : List FrameView → Type 0 = λ fs.
     StandsFor c.enter_samples.new.self l (Got (with_samples d (samples_in (frame_trees samples_read fs))) ∷ items) in
     let P : Datagram → Type 0 = λ x. StandsFor c.enter_samples.new.self l (Got x ∷ items) in
@@ -59,7 +59,7 @@ returns-then-is_entered-clause-answer c = λ l items st.
     let S : CollectorState → Type 0 = λ t. StandsFor t l items in
     let key = key-stream c.args.at c.args.datagram.now c.head-head.result c.head-head.ensures in
     let at = is-at c.args.at c.args.datagram.now c.head-head.result c.head-head.ensures in
-    let d : Datagram = given c.args.at c.args.datagram.now in
+    let d : Datagram = datagram_at c.args.at c.args.datagram.now in
     let P : Datagram → Type 0 = λ x. c.in-Some.found.taken ≡ taken l items (Got x) in
     let answer = ap answer_in_books (sym c.in-Some.is) ∙ c.take_head.ensures.answer l items d key at st in
     subst P (sym (datagram-in-tree c.args.at c.args.datagram.now))
@@ -72,7 +72,7 @@ pub returns-else-is_entered-clause-stands : goal.returns-else-is_entered-clause-
 returns-else-is_entered-clause-stands c = λ l items few st.
     let key = key-stream c.args.at c.args.datagram.now c.head-head.result c.head-head.ensures in
     let at = is-at c.args.at c.args.datagram.now c.head-head.result c.head-head.ensures in
-    let d : Datagram = given c.args.at c.args.datagram.now in
+    let d : Datagram = datagram_at c.args.at c.args.datagram.now in
     let P : Datagram → Type 0 = λ x. StandsFor c.take_head.new.self l (Got x ∷ items) in
     let answer = ap answer_in_books (sym c.in-Some.is) ∙ c.take_head.ensures.answer l items d key at st in
     subst P (sym (datagram-in-tree c.args.at c.args.datagram.now))
@@ -85,7 +85,7 @@ returns-else-is_entered-clause-answer c = λ l items st.
     let S : CollectorState → Type 0 = λ t. StandsFor t l items in
     let key = key-stream c.args.at c.args.datagram.now c.head-head.result c.head-head.ensures in
     let at = is-at c.args.at c.args.datagram.now c.head-head.result c.head-head.ensures in
-    let d : Datagram = given c.args.at c.args.datagram.now in
+    let d : Datagram = datagram_at c.args.at c.args.datagram.now in
     let P : Datagram → Type 0 = λ x. c.in-Some.found.taken ≡ taken l items (Got x) in
     let answer = ap answer_in_books (sym c.in-Some.is) ∙ c.take_head.ensures.answer l items d key at st in
     subst P (sym (datagram-in-tree c.args.at c.args.datagram.now))
@@ -98,7 +98,7 @@ pub returns-in_default-clause-stands : goal.returns-in_default-clause-stands
 returns-in_default-clause-stands c = λ l items few st.
     let key = key-stream c.args.at c.args.datagram.now c.head-head.result c.head-head.ensures in
     let at = is-at c.args.at c.args.datagram.now c.head-head.result c.head-head.ensures in
-    let d : Datagram = given c.args.at c.args.datagram.now in
+    let d : Datagram = datagram_at c.args.at c.args.datagram.now in
     let P : Datagram → Type 0 = λ x. StandsFor c.take_head.new.self l (Got x ∷ items) in
     let answer = ap answer_in_books (sym c.in_default.is) ∙ c.take_head.ensures.answer l items d key at st in
     subst P (sym (datagram-in-tree c.args.at c.args.datagram.now))
@@ -110,7 +110,7 @@ returns-in_default-clause-answer c = λ l items st.
     let S : CollectorState → Type 0 = λ t. StandsFor t l items in
     let key = key-stream c.args.at c.args.datagram.now c.head-head.result c.head-head.ensures in
     let at = is-at c.args.at c.args.datagram.now c.head-head.result c.head-head.ensures in
-    let d : Datagram = given c.args.at c.args.datagram.now in
+    let d : Datagram = datagram_at c.args.at c.args.datagram.now in
     let P : Datagram → Type 0 = λ x. Unlisted ≡ taken l items (Got x) in
     let answer = ap answer_in_books (sym c.in_default.is) ∙ c.take_head.ensures.answer l items d key at st in
     subst P (sym (datagram-in-tree c.args.at c.args.datagram.now))
