@@ -9,7 +9,7 @@ use Rattle.books_spec.specs.Items.{SourceId, Sample, Of, Other, Datagram, stamp_
 use Rattle.books_spec.specs.declared.reading.SampleReading.{SampleReading}
 use Rattle.books_spec.specs.declared.limits.Limits.{Limits}
 use Rattle.books_spec.specs.Listing.{same_stream, same_id, among}
-use Rattle.books_spec.specs.Books.{listed_streams, own, stream_boots, taken_of, taken_at, taken_in, taken_now, samples_at, onto, Entered, entered_in, entered, source_in, source_of, sources_of, first_samples, reading_of, readings, source_boots}
+use Rattle.books_spec.specs.Books.{listed_streams, own, stream_boots, taken_of, taken_at, taken_in, taken_now, samples_at, onto, entered_in, entered, source_in, source_of, sources_of, first_samples, reading_of, readings, source_boots}
 use Rattle.books_spec.specs.declared.taken.Taken.{Taken}
 use Rattle.books_spec.specs.declared.taken.Taken.TheVariants.{First, Repeat, Late, Unlisted, Spent}
 use Rattle.books_spec.specs.declared.taken.Taken.TheVariants as takes

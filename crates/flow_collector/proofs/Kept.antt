@@ -7,7 +7,7 @@ use Rattle.std.proofs.lemmas.List.Sums.{count_by-le-length}
 use Rattle.count_spec.specs.Boots.{boot_place, placed, boots}
 use Rattle.count_spec.specs.declared.boot_place.BootPlace.{BootPlace}
 use Rattle.count_spec.specs.declared.boot_place.BootPlace.TheVariants.{Current, Next, Stale}
-use Rattle.books_spec.specs.Items.{SourceId, Datagram, stamp_of, Item, Got, Malformed, Stream, stream_of, Source}
+use Rattle.books_spec.specs.Items.{SourceId, Datagram, stamp_of, Item, Got, Malformed, stream_of, Source}
 use Rattle.books_spec.specs.declared.reading.SampleReading.{SampleReading}
 use Rattle.books_spec.specs.Listing.{same_stream, same_source, among, listed, unlisted}
 use Rattle.books_spec.specs.Books.{is_malformed, streams_of, taken_at, taken_now, entered, Entered, is_other, own, stream_boots, sources_of, source_boots}

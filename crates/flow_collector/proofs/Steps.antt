@@ -14,10 +14,8 @@ use Rattle.wire_spec.specs.declared.fault.Fault.{Fault}
 use Rattle.books_spec.specs.Items.{Sample, Datagram, stamp_of, Item, Got, Malformed, Stream, stream_of}
 use Rattle.books_spec.specs.declared.limits.Limits.{Limits}
 use Rattle.books_spec.specs.Listing.{same_stream, same_source, among, listed, unlisted}
-use Rattle.books_spec.specs.Books.{current_marks, is_malformed, fault_after, first_fault, streams_of, listed_streams, own, stream_boots, taken_of, taken_at, taken_in, taken_now, entered_in, Entered, source_of, is_other, entered, sources_of, listed_sources, source_boots, totals}
-use Rattle.books_spec.specs.declared.taken.Taken.{Taken}
-use Rattle.books_spec.specs.declared.taken.Taken.TheVariants.{First, Repeat, Late, Unlisted, Spent}
-use Rattle.books_spec.specs.declared.taken.Taken.TheVariants as takes
+use Rattle.books_spec.specs.Books.{current_marks, is_malformed, fault_after, first_fault, streams_of, listed_streams, own, stream_boots, taken_of, taken_at, taken_in, taken_now, Entered, source_of, is_other, totals}
+use Rattle.books_spec.specs.declared.taken.Taken.TheVariants.{Unlisted}
 use Rattle.books_spec.specs.declared.totals.Totals.{Totals}
 use Rattle.books_spec.specs.declared.totals.FirstFault.{FirstFault}
 use Rattle.books_spec.proofs.Listings.{IsSame, listed-keeps, listed-new, listed-full, unlisted-known, unlisted-room, unlisted-full, unlisted-new}

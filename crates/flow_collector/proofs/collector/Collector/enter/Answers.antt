@@ -4,7 +4,7 @@ use Rattle.books_spec.specs.declared.limits.Limits.{Limits}
 use Rattle.books_spec.specs.Items.{Of, Datagram, Got, stream_of}
 use Rattle.books_spec.specs.Books.{listed_streams, stream_boots}
 use Rattle.collector_tables.specs.declared.keys.SourceKey.{SourceKey}
-use Rattle.collector_tables.specs.Keys.{stream_at, source_in}
+use Rattle.collector_tables.specs.Keys.{stream_at}
 use Rattle.flow_collector.specs.Collectors.{CollectorState, collector_state, StandsFor}
 use Rattle.flow_collector.specs.Shown.{id_shown}
 use Rattle.flow_collector.specs.Steps.{Midway, with_sample, boot_number}

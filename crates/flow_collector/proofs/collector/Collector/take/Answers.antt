@@ -2,15 +2,13 @@ use Rattle.std.proofs.Common.{◌≡◌, ◌∙◌, ◌<◌, List, ◌∷◌, le
 use Rattle.data_format.specs.Trees.{frame_trees}
 use Rattle.data_format.specs.Views.{FrameView}
 use Rattle.datagram_views.specs.Tables.{samples_read}
-use Rattle.books_spec.specs.declared.limits.Limits.{Limits}
-use Rattle.books_spec.specs.declared.taken.Taken.{Taken}
 use Rattle.books_spec.specs.declared.taken.Taken.TheVariants.{Unlisted}
-use Rattle.books_spec.specs.Items.{Datagram, Item, Got}
+use Rattle.books_spec.specs.Items.{Datagram, Got}
 use Rattle.books_spec.specs.Books.{taken, most_entries}
 use Rattle.collector_tables.specs.Answers.{answer_in_books}
 use Rattle.flow_collector.specs.Items.{samples_in}
 use Rattle.flow_collector.specs.Collectors.{CollectorState, collector_state, StandsFor}
-use Rattle.flow_collector.specs.Steps.{with_samples, Enters, IsFound}
+use Rattle.flow_collector.specs.Steps.{with_samples}
 use Rattle.flow_collector.proofs.Kept.{entries-are}
 use Rattle.flow_collector.proofs.Readings.{datagram-in-tree}
 use Rattle.flow_collector.proofs.Takes.{answered, datagram_at, key-stream, is-at, first-is, found-at, may-enter, passes}

@@ -1,13 +1,10 @@
 use Rattle.std.proofs.Common.{◌≡◌, ℕ, ◌+◌, ◌≤◌, ◌<◌, Bool, true, false, [], ◌∷◌, if◌then◌else◌, length, refl, sym, ap, subst, ◌∙◌, arith}
-use Rattle.std.specs.Option.{is_some, IfSome}
 use Rattle.books_spec.specs.declared.limits.Limits.{Limits}
-use Rattle.books_spec.specs.Items.{Datagram, Item, Got, stream_of}
+use Rattle.books_spec.specs.Items.{Datagram, Got}
 use Rattle.books_spec.specs.Books.{most_entries}
-use Rattle.stream_books.specs.Streams.{IsAt}
 use Rattle.collector_tables.specs.Keys.{stream_in}
 use Rattle.collector_tables.specs.Answers.{answer_in_books}
 use Rattle.flow_collector.specs.Collectors.{CollectorState, collector_state, StandsFor}
-use Rattle.flow_collector.specs.Steps.{IsFound}
 use Rattle.flow_collector.proofs.Counts.{stream-kept}
 use Rattle.flow_collector.proofs.Found.{some-found, none-is-unlisted}
 use Rattle.flow_collector.proofs.Kept.{entries-are, unlisted-few}
