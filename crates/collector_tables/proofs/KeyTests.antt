@@ -1,22 +1,26 @@
 -- Keys are compared as streams and sources are.
-use Rattle.std.proofs.Common.{◌≡◌, ℕ, Bool, true, false, ◌||◌, Option, Some, None, List, [], ◌∷◌, length, get_or, refl, ◌+◌, sym, ap, ◌∙◌, ◌<◌, cond, not, zero, suc, true≢false, arith}
-use Rattle.std.specs.Prelude.{slice_get, position, ◌&&◌, ◌==◌}
-use Rattle.std.specs.List.{list_any, position_or_len}
+use Rattle.std.proofs.Common.{◌≡◌, ℕ, Bool, true, false, ◌||◌, Option, Some, None, List, [], ◌∷◌, length, get_or, refl, sym, ap, ◌∙◌, ◌<◌, zero, suc, true≢false, arith}
+use Rattle.std.specs.Prelude.{slice_get, position, ◌==◌}
+use Rattle.std.specs.List.{list_any}
 use Rattle.std.specs.Map.{keys_of}
 use Rattle.std.specs.Option.{is_some}
 use Rattle.std.proofs.lemmas.Map.Made.{is_some-lookup}
 use Rattle.indexmap.specs.IndexMap.{IndexMap, get}
 use Rattle.std.proofs.lemmas.List.Quantifiers.{position-Some}
-use Rattle.std.proofs.lemmas.List.Sums.{position_or_len_is}
+use Rattle.std.proofs.lemmas.Bool.{eqb-true}
 use Rattle.data_format.specs.declared.address.Address.{Address}
 use Rattle.data_format.specs.declared.address.Address.TheVariants.{Unknown, V4, V6}
 use Rattle.data_format.specs.declared.source.SourceId.{SourceId}
-use Rattle.books_spec.specs.Listing.{same_stream, same_source, among}
+use Rattle.books_spec.specs.Listing.{same_stream, same_id, among}
+use Rattle.books_spec.proofs.Keys.{and-split, id-same}
 use Rattle.collector_tables.specs.declared.keys.StreamKey.{StreamKey}
 use Rattle.collector_tables.specs.contracts.keys.StreamKeyPartialEq.TheImpl as stream_eq
 use Rattle.collector_tables.specs.declared.keys.SourceKey.{SourceKey}
 use Rattle.collector_tables.specs.contracts.keys.SourceKeyPartialEq.TheImpl as source_eq
-use Rattle.collector_tables.specs.Keys.{stream_in, source_in}
+use Rattle.collector_tables.specs.declared.keys.SampleKind.{SampleKind}
+use Rattle.collector_tables.specs.declared.keys.SampleKind.TheVariants.{Flow, Counters}
+use Rattle.collector_tables.specs.Kinds.{is_flow_kind}
+use Rattle.collector_tables.specs.Keys.{stream_in, id_in, same_key}
 use Rattle.collector_tables.specs.Tables.{keys_in}
 
 key-eq : (x y : Address) (m n : ℕ)
@@ -66,22 +70,6 @@ module _ {K V S : Type 0} (eq : K → K → Bool) (key : K → S) (same : S → 
       let e = entry-at entries i k p.0 in
       (e.0, e.1, e.2, sym (agree k e.0) ∙ ap (eq k) (sym e.3) ∙ p.1)
 
-  same-place : (k : K) (entries : List (K × V))
-      → position_or_len (eq k) (keys_of entries) ≡ position_or_len (same (key k)) (keys_in key entries)
-  same-place k [] = refl
-  same-place k (e ∷ more) =
-      let here = agree k e.0 in
-      let later = same-place k more in
-      λ j. cond (not (here j)) (1 + later j) zero
-
-  -- and it is the first such place
-  pub place-of : (k : K) (entries : List (K × V)) (i : ℕ) → position (eq k) (keys_of entries) ≡ Some i
-      → i ≡ position_or_len (same (key k)) (keys_in key entries)
-  place-of k entries i at =
-      let p = position-Some (eq k) (keys_of entries) i k at in
-      let first = position_or_len_is (eq k) (keys_of entries) i k (omega arith) p.2 (λ less. p.1) in
-      sym first ∙ same-place k entries
-
 -- a stream that isn't among those of a table has no entry there
 pub absent-stream : {V R : Type 0} (m : IndexMap StreamKey V R) (k : StreamKey)
     → among same_stream (keys_in stream_in m.entries) (stream_in k) ≡ false → get (stream_eq.eq-value).it m k ≡ None
@@ -90,22 +78,40 @@ absent-stream m k none = nothing (get (stream_eq.eq-value).it m k)
     ∙ any-among (stream_eq.eq-value).it stream_in same_stream stream-eq k m.entries
     ∙ none)
 
-source-parts : (s t : StreamKey) (p q : Bool) (u v : SourceId)
-    → (source_eq.eq-value).it (record { stream = s; flow = p; source = u }) (record { stream = t; flow = q; source = v })
-    ≡ same_source (source_in (record { stream = s; flow = p; source = u }))
-    (source_in (record { stream = t; flow = q; source = v }))
-source-parts s t true true u v = ap (λ x. x && ((u.class == v.class) && (u.index == v.index))) (stream-eq s t)
-source-parts s t true false u v = ap (λ x. x && false) (stream-eq s t)
-source-parts s t false true u v = ap (λ x. x && false) (stream-eq s t)
-source-parts s t false false u v = ap (λ x. x && ((u.class == v.class) && (u.index == v.index))) (stream-eq s t)
+source-parts : (m n : ℕ) (p q : SampleKind) (u v : SourceId)
+    → (source_eq.eq-value).it (record { stream = m; kind = p; source = u }) (record { stream = n; kind = q; source = v })
+    ≡ same_key (record { stream = m; kind = p; source = u }) (record { stream = n; kind = q; source = v })
+source-parts m n Flow Flow u v = refl
+source-parts m n Flow Counters u v = refl
+source-parts m n Counters Flow u v = refl
+source-parts m n Counters Counters u v = refl
 
-pub source-eq : (a b : SourceKey) → (source_eq.eq-value).it a b ≡ same_source (source_in a) (source_in b)
-source-eq a b = source-parts a.stream b.stream a.flow b.flow a.source b.source
+pub source-eq : (a b : SourceKey) → (source_eq.eq-value).it a b ≡ same_key a b
+source-eq a b = source-parts a.stream b.stream a.kind b.kind a.source b.source
+
+kinds-are : (p q : SampleKind) → is_flow_kind p ≡ is_flow_kind q → p ≡ q
+kinds-are Flow Flow e = refl
+kinds-are Flow Counters e = absurd (true≢false e)
+kinds-are Counters Flow e = absurd (true≢false (sym e))
+kinds-are Counters Counters e = refl
+
+-- keys that are found the same are the same
+pub key-is : (a b : SourceKey) → same_key a b ≡ true → a ≡ b
+key-is a b e =
+    let parts = and-split (a.stream == b.stream) (same_id (id_in a) (id_in b)) e in
+    let places = eqb-true a.stream b.stream parts.0 in
+    let ids = id-same.to (id_in a) (id_in b) parts.1 in
+    let kinds = kinds-are a.kind b.kind (λ j. (ids j).flow) in
+    λ j. record {
+      stream = places j;
+      kind = kinds j;
+      source = record { class = (ids j).class; index = (ids j).index };
+    }
 
 -- a source that isn't among those of a table has no entry there
 pub absent-source : {V R : Type 0} (m : IndexMap SourceKey V R) (k : SourceKey)
-    → among same_source (keys_in source_in m.entries) (source_in k) ≡ false → get (source_eq.eq-value).it m k ≡ None
+    → among same_key (keys_in (λ (x : SourceKey). x) m.entries) k ≡ false → get (source_eq.eq-value).it m k ≡ None
 absent-source m k none = nothing (get (source_eq.eq-value).it m k)
     (is_some-lookup ((source_eq.eq-value).it k) m.entries
-    ∙ any-among (source_eq.eq-value).it source_in same_source source-eq k m.entries
+    ∙ any-among (source_eq.eq-value).it (λ (x : SourceKey). x) same_key source-eq k m.entries
     ∙ none)

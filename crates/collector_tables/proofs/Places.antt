@@ -1,6 +1,7 @@
 -- The value at a place of a table.
-use Rattle.std.proofs.Common.{◌≡◌, ℕ, zero, suc, Some, List, [], ◌∷◌, map, ap}
+use Rattle.std.proofs.Common.{◌≡◌, ℕ, zero, suc, Some, List, [], ◌∷◌, ◌++◌, length, map, ap, refl}
 use Rattle.std.specs.Prelude.{slice_get}
+use Rattle.indexmap.specs.IndexMap.{set_value_at}
 
 -- the value at a place is that of the entry there
 pub same-value : {K V : Type 0} (entries : List (K × V)) (place : ℕ) (k : K) (v w : V)
@@ -25,3 +26,17 @@ same-key {K} {V} entries place k x v w at other =
     let two : K × V = (x, w) in
     let same : one ≡ two = cc in
     ap (λ (p : K × V). p.0) same
+
+-- another value at a place, and one behind the last
+pub at-set : {K V : Type 0} (entries : List (K × V)) (place : ℕ) (k : K) (v w : V)
+    → slice_get entries place ≡ Some (k, v) → slice_get (set_value_at entries place w) place ≡ Some (k, w)
+at-set [] place k v w at = absurd (cc)
+at-set (e ∷ more) zero k v w at =
+    let same_key : e.0 ≡ k = cc in
+    ap (λ x. Some (x, w)) same_key
+at-set (e ∷ more) (suc n) k v w at = at-set more n k v w at
+
+pub at-last : {K V : Type 0} (entries : List (K × V)) (k : K) (v : V)
+    → slice_get (entries ++ (k, v) ∷ []) (length entries) ≡ Some (k, v)
+at-last [] k v = refl
+at-last (e ∷ more) k v = at-last more k v

@@ -1,24 +1,24 @@
 -- One more datagram: what stands for the datagrams of the other streams goes on.
-use Rattle.std.proofs.Common.{◌≡◌, ℕ, zero, suc, ◌<◌, ◌≤◌, Bool, true, false, cond, ◌||◌, Option, Some, None, List, [], ◌∷◌, ◌++◌, length, refl, sym, ap, subst, ◌∙◌, true≢false}
+use Rattle.std.proofs.Common.{◌≡◌, ℕ, ◌<◌, ◌≤◌, Bool, true, false, cond, ◌||◌, Some, List, [], ◌∷◌, ◌++◌, length, refl, sym, ap, subst, ◌∙◌, true≢false}
 use Rattle.std.specs.Prelude.{slice_get}
 use Rattle.indexmap.specs.IndexMap.{set_value_at}
 use Rattle.count_spec.specs.Boots.{boot_place, boots}
-use Rattle.books_spec.specs.Items.{Datagram, stamp_of, Item, Got, Stream, stream_of, Limits}
+use Rattle.books_spec.specs.Items.{Datagram, stamp_of, Item, Got, Stream, stream_of}
+use Rattle.books_spec.specs.declared.limits.Limits.{Limits}
 use Rattle.books_spec.specs.Listing.{same_stream, among, AreDistinct, first_arrivals}
-use Rattle.books_spec.specs.Books.{streams_of, listed_streams, own, stream_boots, taken_at, taken_in, taken_now, Unlisted}
-use Rattle.books_spec.specs.Books as books
+use Rattle.books_spec.specs.Books.{streams_of, listed_streams, own, stream_boots, taken_at, taken_in, taken_now}
+use Rattle.books_spec.specs.declared.taken.Taken.TheVariants.{Unlisted}
 use Rattle.books_spec.proofs.Listings.{symmetric, listed-known, listed-new, listed-full, listed-all, listed-distinct, first_arrivals-all}
 use Rattle.books_spec.proofs.Entered.{own-none}
 use Rattle.books_spec.proofs.Keys.{stream-same}
 use Rattle.stream_books.specs.Streams.{StreamState, StandsFor, IsAt}
-use Rattle.stream_books.specs.Taken.{taken_in_books}
-use Rattle.stream_books.specs.declared.taken.Taken.{Taken}
+use Rattle.books_spec.specs.declared.taken.Taken.{Taken}
 use Rattle.collector_tables.specs.declared.keys.StreamKey.{StreamKey}
 use Rattle.collector_tables.specs.Keys.{stream_in}
 use Rattle.collector_tables.specs.Tables.{keys_in}
 use Rattle.collector_tables.specs.Takes.{Takes}
 use Rattle.collector_tables.specs.Listed.{StreamStands, StreamsStand}
-use Rattle.collector_tables.proofs.Tables.{each-at, each-set, each-others, each-push, keys-set, keys-push}
+use Rattle.collector_tables.proofs.Tables.{among-at, each-at, each-set, each-others, each-push, keys-length, keys-set, keys-push}
 
 own-other : (d : Datagram) (items : List Item) (t : Stream) → same_stream t (stream_of d) ≡ false
     → own t items ≡ own t (Got d ∷ items)
@@ -29,35 +29,6 @@ own-this : (d : Datagram) (items : List Item) (t : Stream) → t ≡ stream_of d
 own-this d items t this =
     let found : same_stream t (stream_of d) ≡ true = ap (same_stream t) (sym this) ∙ stream-same.self t in
     ap (λ b. cond b (d ∷ own t items) (own t items)) (sym found)
-
-among-at : (entries : List (StreamKey × StreamState)) (place : ℕ) (k : StreamKey) (v : StreamState)
-    → slice_get entries place ≡ Some (k, v) → among same_stream (keys_in stream_in entries) (stream_in k) ≡ true
-among-at [] place k v at = absurd (true≢false (ap is_none at))
-  where
-    is_none : Option (StreamKey × StreamState) → Bool
-    is_none None = true
-    is_none (Some x) = false
-among-at (e ∷ more) zero k v at =
-    let same_key : e.0 ≡ k = cc in
-    let here : same_stream (stream_in k) (stream_in e.0) ≡ true =
-    ap (λ x. same_stream (stream_in k) (stream_in x)) same_key ∙ stream-same.self (stream_in k) in
-    ap (λ b. b || among same_stream (keys_in stream_in more) (stream_in k)) here
-among-at (e ∷ more) (suc n) k v at =
-    later (same_stream (stream_in k) (stream_in e.0)) (among same_stream (keys_in stream_in more) (stream_in k))
-    (among-at more n k v at)
-  where
-    later : (a b : Bool) → b ≡ true → (a || b) ≡ true
-    later true b h = refl
-    later false b h = h
-
--- the boots of the stream at a place
-pub boots-at : (l : Limits) (entries : List (StreamKey × StreamState)) (items : List Item) (place : ℕ) (k : StreamKey)
-    (v : StreamState) (stream : Stream) → slice_get entries place ≡ Some (k, v) → stream_in k ≡ stream
-    → StreamsStand l entries items → v.ledger.boot ≡ length (stream_boots l stream items)
-boots-at l entries items place k v stream at this st =
-    let own_stands = each-at stream_in (StreamStands l items) entries place k v at st.each in
-    own_stands.stands.boots_are
-    ∙ (λ j. length (boots stamp_of l.boot_slack (own_stands.width j) (own (this j) items)))
 
 module _ (l : Limits) (entries : List (StreamKey × StreamState)) (items : List Item) (d : Datagram) where
   -- a stream goes on for one that isn't its own
@@ -75,7 +46,7 @@ module _ (l : Limits) (entries : List (StreamKey × StreamState)) (items : List 
   listed-at place k was at this st =
       let P : List Stream → Type 0 = λ keys. among same_stream keys (stream_of d) ≡ true in
       subst P st.keys_are
-      (ap (among same_stream (keys_in stream_in entries)) (sym this) ∙ among-at entries place k was at)
+      (ap (among same_stream (keys_in stream_in entries)) (sym this) ∙ among-at stream_in same_stream stream-same entries place k was at)
 
   -- a datagram of the stream at a place
   pub known-stands : (place : ℕ) (k : StreamKey) (was now : StreamState) (arrival uptime sequence : ℕ) (answer : Taken)
@@ -106,7 +77,7 @@ module _ (l : Limits) (entries : List (StreamKey × StreamState)) (items : List 
   pub known-answer : (place : ℕ) (k : StreamKey) (was now : StreamState) (arrival uptime sequence : ℕ) (answer : Taken)
       → slice_get entries place ≡ Some (k, was) → stream_in k ≡ stream_of d → IsAt d arrival uptime sequence
       → Takes l.boot_slack arrival uptime sequence was now answer → StreamsStand l entries items
-      → taken_in_books answer ≡ taken_now l items (Got d)
+      → answer ≡ taken_now l items (Got d)
   known-answer place k was now arrival uptime sequence answer at this is takes st =
       let there = listed-at place k was at this st in
       let still : among same_stream (listed_streams l (Got d ∷ items)) (stream_of d) ≡ true =
@@ -128,11 +99,7 @@ module _ (l : Limits) (entries : List (StreamKey × StreamState)) (items : List 
       subst P st.keys_are (ap (among same_stream (keys_in stream_in entries)) (sym this) ∙ none)
 
   length-of : StreamsStand l entries items → length entries ≡ length (listed_streams l items)
-  length-of st = sym (keys-length entries) ∙ ap length st.keys_are
-    where
-      keys-length : (es : List (StreamKey × StreamState)) → length (keys_in stream_in es) ≡ length es
-      keys-length [] = refl
-      keys-length (e ∷ more) = ap suc (keys-length more)
+  length-of st = sym (keys-length stream_in same_stream entries) ∙ ap length st.keys_are
 
   nothing-came : (k : StreamKey) → among same_stream (keys_in stream_in entries) (stream_in k) ≡ false
       → stream_in k ≡ stream_of d → length entries < l.streams → StreamsStand l entries items
@@ -157,7 +124,7 @@ module _ (l : Limits) (entries : List (StreamKey × StreamState)) (items : List 
   pub new-stands : (k : StreamKey) (was now : StreamState) (arrival uptime sequence : ℕ) (answer : Taken)
       → among same_stream (keys_in stream_in entries) (stream_in k) ≡ false → length entries < l.streams
       → stream_in k ≡ stream_of d → IsAt d arrival uptime sequence
-      → was.ledger.width ≡ l.datagram_width → StandsFor l.boot_slack was []
+      → was.ledger.marks.width ≡ l.datagram_width → StandsFor l.boot_slack was []
       → Takes l.boot_slack arrival uptime sequence was now answer → StreamsStand l entries items
       → StreamsStand l (entries ++ (k, now) ∷ []) (Got d ∷ items)
   new-stands k was now arrival uptime sequence answer none room this is width opened takes st =
@@ -186,9 +153,9 @@ module _ (l : Limits) (entries : List (StreamKey × StreamState)) (items : List 
   pub new-answer : (k : StreamKey) (was now : StreamState) (arrival uptime sequence : ℕ) (answer : Taken)
       → among same_stream (keys_in stream_in entries) (stream_in k) ≡ false → length entries < l.streams
       → stream_in k ≡ stream_of d → IsAt d arrival uptime sequence
-      → was.ledger.width ≡ l.datagram_width → StandsFor l.boot_slack was []
+      → was.ledger.marks.width ≡ l.datagram_width → StandsFor l.boot_slack was []
       → Takes l.boot_slack arrival uptime sequence was now answer → StreamsStand l entries items
-      → taken_in_books answer ≡ taken_now l items (Got d)
+      → answer ≡ taken_now l items (Got d)
   new-answer k was now arrival uptime sequence answer none room this is width opened takes st =
       let absent = unlisted-in k none this st in
       let empty : own (stream_of d) items ≡ [] =
@@ -231,7 +198,7 @@ module _ (l : Limits) (entries : List (StreamKey × StreamState)) (items : List 
 
   pub full-answer : (k : StreamKey) → among same_stream (keys_in stream_in entries) (stream_in k) ≡ false
       → l.streams ≤ length entries → stream_in k ≡ stream_of d → StreamsStand l entries items
-      → books.Unlisted ≡ taken_now l items (Got d)
+      → Unlisted ≡ taken_now l items (Got d)
   full-answer k none full this st =
       let full_there : l.streams ≤ length (listed_streams l items) =
       let P : ℕ → Type 0 = λ n. l.streams ≤ n in subst P (length-of st) full in

@@ -1,5 +1,5 @@
 -- One more entry of a table, and another value at a place.
-use Rattle.std.proofs.Common.{◌≡◌, ℕ, zero, suc, Bool, true, false, ◌||◌, Option, Some, None, List, [], ◌∷◌, ◌++◌, refl, sym, ap, subst, ◌∙◌, true≢false}
+use Rattle.std.proofs.Common.{◌≡◌, ℕ, zero, suc, Bool, true, false, ◌||◌, Option, Some, None, List, [], ◌∷◌, ◌++◌, length, refl, sym, ap, subst, ◌∙◌, true≢false}
 use Rattle.std.specs.Prelude.{slice_get}
 use Rattle.indexmap.specs.IndexMap.{set_value_at}
 use Rattle.books_spec.specs.Listing.{among, AreDistinct}
@@ -9,6 +9,10 @@ use Rattle.collector_tables.specs.Tables.{keys_in, Each}
 or-parts : (a b : Bool) → (a || b) ≡ false → (a ≡ false) × (b ≡ false)
 or-parts true b h = absurd (true≢false h)
 or-parts false b h = (refl, h)
+
+or-more : (a b : Bool) → b ≡ true → (a || b) ≡ true
+or-more true b h = refl
+or-more false b h = h
 
 is_none : {X : Type 0} → Option X → Bool
 is_none None = true
@@ -53,6 +57,22 @@ module _ {K V S : Type 0} (key : K → S) (same : S → S → Bool) where
   keys-push [] k v = refl
   keys-push (e ∷ more) k v = ap (λ rest. key e.0 ∷ rest) (keys-push more k v)
 
+  pub keys-length : (entries : List (K × V)) → length (keys_in key entries) ≡ length entries
+  keys-length [] = refl
+  keys-length (e ∷ more) = ap suc (keys-length more)
+
+  -- the key at a place is one of the table
+  pub among-at : (laws : IsSame same) (entries : List (K × V)) (place : ℕ) (k : K) (v : V)
+      → slice_get entries place ≡ Some (k, v) → among same (keys_in key entries) (key k) ≡ true
+  unfolding is_none
+  among-at laws [] place k v at = absurd (true≢false (ap is_none at))
+  among-at laws (e ∷ more) zero k v at =
+      let same_key : e.0 ≡ k = cc in
+      let here : same (key k) (key e.0) ≡ true = ap (λ x. same (key k) (key x)) same_key ∙ laws.self (key k) in
+      ap (λ b. b || among same (keys_in key more) (key k)) here
+  among-at laws (e ∷ more) (suc n) k v at =
+      or-more (same (key k) (key e.0)) (among same (keys_in key more) (key k)) (among-at laws more n k v at)
+
   keys-at : (entries : List (K × V)) (place : ℕ) (k : K) (v : V) (s : S) → slice_get entries place ≡ Some (k, v)
       → among same (keys_in key entries) s ≡ false → same s (key k) ≡ false
   keys-at entries place k v s at none =
@@ -81,19 +101,25 @@ module _ {K V S : Type 0} (key : K → S) (same : S → S → Bool) where
       symmetric same laws (key e.0) (key k) (keys-at more n k v (key e.0) at distinct.0) in
       (step (key e.0) e.1 other all.0, each-set laws P Q more n k v w at distinct.1 step new all.1)
 
-  -- what is so at each key goes on, the value at a place being another
+  -- what is so at each key goes on
   pub each-map : (P Q : S → V → Type 0) (entries : List (K × V)) → ((t : S) (u : V) → P t u → Q t u)
       → Each key P entries → Each key Q entries
   each-map P Q [] step all = tt
   each-map P Q (e ∷ more) step all = (step (key e.0) e.1 all.0, each-map P Q more step all.1)
 
-  pub each-put : (P Q : S → V → Type 0) (entries : List (K × V)) (place : ℕ) (k : K) (v w : V)
-      → slice_get entries place ≡ Some (k, v) → ((t : S) (u : V) → P t u → Q t u) → Q (key k) w
-      → Each key P entries → Each key Q (set_value_at entries place w)
-  each-put P Q [] place k v w at step new all = tt
-  each-put P Q (e ∷ more) zero k v w at step new all =
-      let same_key : e.0 ≡ k = cc in
-      let R : K → Type 0 = λ x. Q (key x) w in
-      (subst R (sym same_key) new, each-map P Q more step all.1)
-  each-put P Q (e ∷ more) (suc n) k v w at step new all =
-      (step (key e.0) e.1 all.0, each-put P Q more n k v w at step new all.1)
+-- under other names that are the same at each key, the table is the same
+module _ {K V S : Type 0} (key other : K → S) where
+  pub each-renamed : (P : S → V → Type 0) (entries : List (K × V)) → Each (λ (k : K). k) (λ k v. key k ≡ other k) entries
+      → Each key P entries → Each other P entries
+  each-renamed P [] same all = tt
+  each-renamed P (e ∷ more) same all =
+      let R : S → Type 0 = λ x. P x e.1 in
+      (subst R same.0 all.0, each-renamed P more same.1 all.1)
+
+  pub keys-renamed : (entries : List (K × V)) → Each (λ (k : K). k) (λ k v. key k ≡ other k) entries
+      → keys_in key entries ≡ keys_in other entries
+  keys-renamed [] same = refl
+  keys-renamed (e ∷ more) same =
+      let here = same.0 in
+      let later = keys-renamed more same.1 in
+      λ j. here j ∷ later j

@@ -1,3 +1,4 @@
+pub mod Kinds
 pub mod Tables
 pub mod Keys
 pub mod Takes
@@ -5,3 +6,4 @@ pub mod Listed
 pub mod Sources
 pub mod Enters
 pub mod Hashes
+pub mod Answers

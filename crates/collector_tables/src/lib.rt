@@ -6,6 +6,9 @@ mod keys;
 mod sources;
 mod streams;
 
-pub use keys::{SourceKey, StreamKey};
-pub use sources::SourceTable;
-pub use streams::StreamTable;
+pub use keys::{SampleKind, SourceKey, StreamKey};
+pub use sources::{EnteredAt, SourceTable};
+pub use streams::{StreamTable, TakenAt};
+
+#[cfg(test)]
+mod tests;

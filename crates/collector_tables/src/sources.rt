@@ -1,21 +1,33 @@
-ghost use Rattle.std.specs.Prelude.{◌≡◌, ℕ, ◌+◌, ◌^◌, ◌≤◌, ◌<◌, ◌++◌, true, false, List, [], ◌∷◌, IfOk, IfNone, IfSome, IsTrue, ◌↔◌, Some, slice_get, length, if◌then◌else◌};
+ghost use Rattle.std.specs.Prelude.{◌≡◌, ℕ, ◌+◌, ◌^◌, ◌≤◌, ◌<◌, ◌++◌, false, List, [], ◌∷◌, map, IfOk, IfNone, IfSome, IsTrue, ◌↔◌, Some, slice_get, length, is_some, if◌then◌else◌};
 ghost use Rattle.indexmap.specs.IndexMap.{set_value_at};
-ghost use Rattle.books_spec.specs.Items.{Reading, Source};
+ghost use Rattle.count_spec.specs.Windows.{answer, counted};
+ghost use Rattle.books_spec.specs.Items.{Stream, Source};
+ghost use Rattle.books_spec.specs.declared.reading.SampleReading.{SampleReading};
+ghost use Rattle.books_spec.specs.Books.{mark_in};
 ghost use Rattle.books_spec.specs.Listing.{same_source, among, first_arrivals, unlisted};
 ghost use Rattle.stream_books.specs.Sources.{StandsFor, is_flow, width_of, boot_of, entered_count};
-ghost use Rattle.stream_books.specs.Readings.{reading_in};
 ghost use Rattle.collector_tables.specs.declared.keys.SourceKey.{SourceKey};
-ghost use Rattle.collector_tables.specs.Keys.{source_in};
+ghost use Rattle.collector_tables.specs.Kinds.{is_flow_kind};
+ghost use Rattle.collector_tables.specs.Keys.{source_in, same_key, IsPlaced};
 ghost use Rattle.collector_tables.specs.Tables.{keys_in};
 ghost use Rattle.collector_tables.specs.Sources.{AreEmpty, after_reading, SourcesStand};
 ghost use Rattle.collector_tables.specs.Enters.{Enters};
 
-use crate::keys::SourceKey;
+use crate::keys::{SampleKind, SourceKey};
 use indexmap::IndexMap;
 use std::alloc::{AllocError, Global};
 use std::hash::RandomState;
 use std::marker::Model;
-use stream_books::{SampleReading, SourceRecord};
+use stream_books::{Entered, SampleReading, SourceRecord};
+
+/// Where a sample was entered, and what was answered.
+#[derive(Clone, Copy, Debug)]
+pub struct EnteredAt {
+    /// The place of its source among those listed, from 0 on in order of first arrival.
+    pub place: u32,
+    /// The answer of the ledger of its source.
+    pub entered: Entered,
+}
 
 /// The sources that are listed, in order of first arrival, in room that was taken at the opening.
 #[derive(Drop)]
@@ -36,8 +48,8 @@ impl Model for SourceTable {
 
     ghost view = { λ t. record { entries = t.map.entries; limit = t.limit } };
 
-    // The room was taken at the opening.
-    ghost invariant = { λ t. t.limit ≤ index_map_len t.map + spare t.map };
+    // The room was taken at the opening, and no more are listed.
+    ghost invariant = { λ t. (t.limit ≤ index_map_len t.map + spare t.map) × (index_map_len t.map ≤ t.limit) };
 }
 
 impl SourceTable {
@@ -51,11 +63,17 @@ impl SourceTable {
         Ok(SourceTable { map, limit })
     }
 
-    /// Whether all sources that may be listed are.
-    pub fn is_full(&self) -> bool
+    // Whether all sources that may be listed are.
+    fn is_full(&self) -> bool
         ensures { IsTrue result ↔ (self.now.limit ≤ length self.now.entries) }
     {
         self.map.len() >= self.limit as usize
+    }
+
+    // How many there is room for in all.
+    #[cfg(test)]
+    pub(crate) fn room(&self) -> usize {
+        self.map.capacity()
     }
 
     /// How many sources are listed.
@@ -73,107 +91,131 @@ impl SourceTable {
         self.map.get_index(place)
     }
 
-    /// The place of a source, if it is listed.
-    pub fn place(&self, key: &SourceKey) -> Option<usize>
-        ensures some { IfSome result (λ p. (k : SourceKey) × (v : SourceRecord)
-            × (slice_get self.now.entries p ≡ Some (k, v)) × (source_in k ≡ source_in key.now)) }
-        ensures none { IfNone result
-            (among same_source (keys_in source_in self.now.entries) (source_in key.now) ≡ false) }
+    // The place of a source, if it is listed.
+    fn place(&self, key: &SourceKey) -> Option<usize>
+        ensures some { IfSome result (λ p. (v : SourceRecord) × (slice_get self.now.entries p ≡ Some (key.now, v))) }
+        ensures none { IfNone result (among same_key (keys_in (λ (k : SourceKey). k) self.now.entries) key.now ≡ false) }
     {
         self.map.get_index_of(key)
     }
 
-    /// Lists a source behind the others, where there is room and it isn't listed yet.
-    pub fn add(&mut self, key: SourceKey, source: SourceRecord)
+    // Lists a source behind the others, where there is room and it isn't listed yet.
+    fn add(&mut self, key: SourceKey, source: SourceRecord)
         requires room { length self.old.entries < self.old.limit }
-        requires new { among same_source (keys_in source_in self.old.entries) (source_in key) ≡ false }
+        requires new { among same_key (keys_in (λ (k : SourceKey). k) self.old.entries) key ≡ false }
         ensures entries { self.new.entries ≡ self.old.entries ++ (key, source) ∷ [] }
         ensures limit { self.new.limit ≡ self.old.limit }
     {
         self.map.insert(key, source).unwrap();
     }
 
-    /// Enters what a sample of this boot shows into the source at a place.
-    pub fn enter_at(&mut self, place: usize, boot: u64, reading: SampleReading)
+    // Enters what a sample of this boot shows into the source at a place.
+    fn enter_at(&mut self, place: usize, boot: u64, reading: SampleReading) -> EnteredAt
         requires place { place < length self.old.entries }
         requires boot_counts { 1 ≤ boot }
         requires ready { (k : SourceKey) (was : SourceRecord) → slice_get self.old.entries place ≡ Some (k, was)
             → (boot_of was ≤ boot) × (entered_count was < 2 ^ 62) }
         ensures now { (k : SourceKey) (was : SourceRecord) → slice_get self.old.entries place ≡ Some (k, was)
             → (now : SourceRecord) × (self.new.entries ≡ set_value_at self.old.entries place now)
-            × Enters boot (reading_in reading) was now }
+            × Enters boot reading was now result.entered }
+        ensures place { result.place ≡ place }
         ensures limit { self.new.limit ≡ self.old.limit }
     {
         let source = &mut self.map[place];
-        source.enter(boot, reading);
+        let entered = source.enter(boot, reading);
+        EnteredAt {
+            place: place as u32,
+            entered,
+        }
     }
 
     /// Enters what a sample of a source shows, in this boot of its stream, which is that of the last sample or a later
-    /// one; false exactly where the source is new and there is no room. The windows have this width, from 1 to 1,024.
+    /// one; `None` exactly where the source is new and there is no room. The windows have this width, from 1 to 1,024.
     /// Fewer than 2^62 samples of each source were entered before.
-    pub fn enter(&mut self, key: SourceKey, width: u32, boot: u64, reading: SampleReading) -> bool
+    pub fn enter(
+        &mut self,
+        key: SourceKey,
+        width: u32,
+        boot: u64,
+        reading: SampleReading,
+    ) -> Option<EnteredAt>
         requires width_from { 1 ≤ width }
         requires width_to { width ≤ 1024 }
         requires boot_counts { 1 ≤ boot }
-        requires ready { (p : ℕ) (k : SourceKey) (was : SourceRecord) → slice_get self.old.entries p ≡ Some (k, was)
-            → source_in k ≡ source_in key → (boot_of was ≤ boot) × (entered_count was < 2 ^ 62) }
-        ensures stands { (arrived : List Source) (boots_of : Source → List (List Reading))
-            (current : List Reading) (closed : List (List Reading))
-            → boots_of (source_in key) ≡ current ∷ closed → length closed + 1 ≡ boot
-            → (among same_source (first_arrivals same_source arrived) (source_in key) ≡ false
+        requires ready { (p : ℕ) (was : SourceRecord) → slice_get self.old.entries p ≡ Some (key, was)
+            → (boot_of was ≤ boot) × (entered_count was < 2 ^ 62) }
+        ensures stands { (streams : List Stream) (arrived : List Source) (boots_of : Source → List (List SampleReading))
+            (current : List SampleReading) (closed : List (List SampleReading)) → IsPlaced streams key
+            → boots_of (source_in streams key) ≡ current ∷ closed → length closed + 1 ≡ boot
+            → (among same_source (first_arrivals same_source arrived) (source_in streams key) ≡ false
             → AreEmpty (current ∷ closed))
-            → SourcesStand self.old.limit width self.old.entries arrived boots_of
-            → SourcesStand self.old.limit width self.new.entries (source_in key ∷ arrived)
-            (after_reading (source_in key) (reading_in reading) boots_of) }
-        ensures counted { (arrived : List Source) (boots_of : Source → List (List Reading))
-            → SourcesStand self.old.limit width self.old.entries arrived boots_of
-            → unlisted same_source self.old.limit (source_in key ∷ arrived)
-            ≡ unlisted same_source self.old.limit arrived + (if result then 0 else 1) }
+            → SourcesStand streams self.old.limit width self.old.entries arrived boots_of
+            → SourcesStand streams self.old.limit width self.new.entries (source_in streams key ∷ arrived)
+            (after_reading (source_in streams key) reading boots_of) }
+        ensures answer { (streams : List Stream) (arrived : List Source) (boots_of : Source → List (List SampleReading))
+            (current : List SampleReading) (closed : List (List SampleReading)) → IsPlaced streams key
+            → boots_of (source_in streams key) ≡ current ∷ closed → length closed + 1 ≡ boot
+            → (among same_source (first_arrivals same_source arrived) (source_in streams key) ≡ false
+            → AreEmpty (current ∷ closed))
+            → SourcesStand streams self.old.limit width self.old.entries arrived boots_of
+            → IfSome result (λ r. r.entered
+            ≡ answer width (counted width (map mark_in current)) reading.sequence) }
+        ensures counted { (streams : List Stream) (arrived : List Source) (boots_of : Source → List (List SampleReading))
+            → IsPlaced streams key → SourcesStand streams self.old.limit width self.old.entries arrived boots_of
+            → unlisted same_source self.old.limit (source_in streams key ∷ arrived)
+            ≡ unlisted same_source self.old.limit arrived + (if is_some result then 0 else 1) }
+        ensures place { IfSome result (λ r. (now : SourceRecord) × (slice_get self.new.entries r.place ≡ Some (key, now))) }
         ensures limit { self.new.limit ≡ self.old.limit }
     {
         if let Some(place) = self.place(&key) {
-            self.enter_at(place, boot, reading);
-            return true;
+            return Some(self.enter_at(place, boot, reading));
         }
         if self.is_full() {
-            return false;
+            return None;
         }
-        self.enter_new(key, width, boot, reading);
-        true
+        Some(self.enter_new(key, width, boot, reading))
     }
 
-    // The same of a source that isn't listed yet, where there is room.
-    fn enter_new(&mut self, key: SourceKey, width: u32, boot: u64, reading: SampleReading)
+    // Enters what a sample of this boot shows into a source that isn't listed yet, where there is room.
+    fn enter_new(
+        &mut self,
+        key: SourceKey,
+        width: u32,
+        boot: u64,
+        reading: SampleReading,
+    ) -> EnteredAt
         requires width_from { 1 ≤ width }
         requires width_to { width ≤ 1024 }
         requires boot_counts { 1 ≤ boot }
         requires room { length self.old.entries < self.old.limit }
-        requires new { among same_source (keys_in source_in self.old.entries) (source_in key) ≡ false }
+        requires new { among same_key (keys_in (λ (k : SourceKey). k) self.old.entries) key ≡ false }
         ensures now { (was : SourceRecord) × (now : SourceRecord)
             × (self.new.entries ≡ self.old.entries ++ (key, now) ∷ [])
-            × (is_flow was ≡ key.flow) × (width_of was ≡ width) × StandsFor was []
-            × Enters boot (reading_in reading) was now }
+            × (is_flow was ≡ is_flow_kind key.kind) × (width_of was ≡ width) × StandsFor was []
+            × Enters boot reading was now result.entered }
+        ensures place { result.place ≡ length self.old.entries }
         ensures limit { self.new.limit ≡ self.old.limit }
     {
-        let mut source = opened(key.flow, width);
-        source.enter(boot, reading);
+        let place = self.map.len() as u32;
+        let mut source = opened(key.kind, width);
+        let entered = source.enter(boot, reading);
         self.add(key, source);
+        EnteredAt { place, entered }
     }
 }
 
 // Nothing came yet from a source of this kind.
-fn opened(flow: bool, width: u32) -> SourceRecord
+fn opened(kind: SampleKind, width: u32) -> SourceRecord
     requires width_from { 1 ≤ width }
     requires width_to { width ≤ 1024 }
     ensures stands { StandsFor result [] }
-    ensures kind { is_flow result ≡ flow }
+    ensures kind { is_flow result ≡ is_flow_kind kind }
     ensures width { width_of result ≡ width }
     ensures boot { boot_of result ≡ 0 }
     ensures entered { entered_count result ≡ 0 }
 {
-    if flow {
-        SourceRecord::open_flow(width)
-    } else {
-        SourceRecord::open_counters(width)
+    match kind {
+        SampleKind::Flow => SourceRecord::open_flow(width),
+        SampleKind::Counters => SourceRecord::open_counters(width),
     }
 }

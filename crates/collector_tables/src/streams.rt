@@ -1,16 +1,16 @@
 ghost use Rattle.std.specs.Prelude.{◌≡◌, ℕ, ◌+◌, ◌^◌, ◌≤◌, ◌<◌, ◌++◌, true, false, List, [], ◌∷◌, IfOk, IfNone, IfSome, IsTrue, ◌↔◌, Some, slice_get, length};
-ghost use Rattle.std.specs.List.{position_or_len};
 ghost use Rattle.indexmap.specs.IndexMap.{set_value_at};
-ghost use Rattle.books_spec.specs.Items.{Datagram, Item, Got, stream_of, Limits};
-ghost use Rattle.books_spec.specs.Books.{listed_streams, stream_boots, taken_now};
+ghost use Rattle.books_spec.specs.Items.{Datagram, Item, Got, stream_of};
+ghost use Rattle.books_spec.specs.declared.limits.Limits.{Limits};
+ghost use Rattle.books_spec.specs.Books.{taken_now};
 ghost use Rattle.books_spec.specs.Listing.{same_stream, among};
 ghost use Rattle.stream_books.specs.Streams.{StreamState, StandsFor, IsAt};
 ghost use Rattle.collector_tables.specs.declared.keys.StreamKey.{StreamKey};
-ghost use Rattle.stream_books.specs.Taken.{taken_in_books};
 ghost use Rattle.collector_tables.specs.Listed.{StreamsStand};
-ghost use Rattle.collector_tables.specs.Takes.{Takes, HasTaken};
+ghost use Rattle.collector_tables.specs.Takes.{Takes};
+ghost use Rattle.collector_tables.specs.Answers.{answer_in_books};
 ghost use Rattle.collector_tables.specs.Keys.{stream_in};
-ghost use Rattle.collector_tables.specs.Tables.{keys_in, Each};
+ghost use Rattle.collector_tables.specs.Tables.{keys_in};
 
 use crate::keys::StreamKey;
 use indexmap::IndexMap;
@@ -18,6 +18,17 @@ use std::alloc::{AllocError, Global};
 use std::hash::RandomState;
 use std::marker::Model;
 use stream_books::{StreamRecord, Taken};
+
+/// What was answered to a datagram, and where.
+#[derive(Clone, Copy, Debug)]
+pub struct TakenAt {
+    /// The answer of what is kept of its stream.
+    pub taken: Taken,
+    /// The place of its stream among those listed, from 0 on in order of first arrival.
+    pub place: u32,
+    /// How many boots its stream had by then: the number of the current one.
+    pub boot: u64,
+}
 
 /// The streams that are listed, in order of first arrival, in room that was taken at the opening.
 #[derive(Drop)]
@@ -38,8 +49,8 @@ impl Model for StreamTable {
 
     ghost view = { λ t. record { entries = t.map.entries; limit = t.limit } };
 
-    // The room was taken at the opening.
-    ghost invariant = { λ t. t.limit ≤ index_map_len t.map + spare t.map };
+    // The room was taken at the opening, and no more are listed.
+    ghost invariant = { λ t. (t.limit ≤ index_map_len t.map + spare t.map) × (index_map_len t.map ≤ t.limit) };
 }
 
 impl StreamTable {
@@ -51,11 +62,17 @@ impl StreamTable {
         Ok(StreamTable { map, limit })
     }
 
-    /// Whether all streams that may be listed are.
-    pub fn is_full(&self) -> bool
+    // Whether all streams that may be listed are.
+    fn is_full(&self) -> bool
         ensures { IsTrue result ↔ (self.now.limit ≤ length self.now.entries) }
     {
         self.map.len() >= self.limit as usize
+    }
+
+    // How many there is room for in all.
+    #[cfg(test)]
+    pub(crate) fn room(&self) -> usize {
+        self.map.capacity()
     }
 
     /// How many streams are listed.
@@ -73,30 +90,8 @@ impl StreamTable {
         self.map.get_index(place)
     }
 
-    /// How many boots the stream had, where it is listed; else 0.
-    pub fn boots(&self, key: &StreamKey) -> u64
-        ensures { (l : Limits) (items : List Item) → StreamsStand l self.now.entries items
-            → among same_stream (listed_streams l items) (stream_in key.now) ≡ true
-            → result ≡ length (stream_boots l (stream_in key.now) items) }
-    {
-        match self.place(key) {
-            Some(place) => self.boots_at(place),
-            None => 0,
-        }
-    }
-
-    // How many boots the stream at a place had.
-    fn boots_at(&self, place: usize) -> u64
-        requires { place < length self.now.entries }
-        ensures { (k : StreamKey) (v : StreamState) → slice_get self.now.entries place ≡ Some (k, v)
-            → result ≡ v.ledger.boot }
-    {
-        self.map[place].boots()
-    }
-
-    /// The place of a stream, if it is listed.
-    pub fn place(&self, key: &StreamKey) -> Option<usize>
-        ensures at { IfSome result (λ p. p ≡ position_or_len (same_stream (stream_in key.now)) (keys_in stream_in self.now.entries)) }
+    // The place of a stream, if it is listed.
+    fn place(&self, key: &StreamKey) -> Option<usize>
         ensures some { IfSome result (λ p. (k : StreamKey) × (v : StreamState)
             × (slice_get self.now.entries p ≡ Some (k, v)) × (stream_in k ≡ stream_in key.now)) }
         ensures none { IfNone result
@@ -105,8 +100,8 @@ impl StreamTable {
         self.map.get_index_of(key)
     }
 
-    /// Lists a stream behind the others, where there is room and it isn't listed yet.
-    pub fn add(&mut self, key: StreamKey, stream: StreamRecord)
+    // Lists a stream behind the others, where there is room and it isn't listed yet.
+    fn add(&mut self, key: StreamKey, stream: StreamRecord)
         requires room { length self.old.entries < self.old.limit }
         requires new { among same_stream (keys_in stream_in self.old.entries) (stream_in key) ≡ false }
         ensures entries { self.new.entries ≡ self.old.entries ++ (key, stream) ∷ [] }
@@ -115,32 +110,37 @@ impl StreamTable {
         self.map.insert(key, stream).unwrap();
     }
 
-    /// Takes a datagram of the stream at a place, with its arrival and its uptime in ms and its sequence word; the
-    /// boot marks of one boot may differ by the slack, in ms. Fewer than 2^62 datagrams of each stream were taken
-    /// before.
-    pub fn take_at(
+    // Takes a datagram of the stream at a place.
+    fn take_at(
         &mut self,
         place: usize,
         slack: u32,
         arrival: u64,
         uptime: u32,
         sequence: u32,
-    ) -> Taken
+    ) -> TakenAt
         requires place { place < length self.old.entries }
         requires few { (k : StreamKey) (was : StreamState) → slice_get self.old.entries place ≡ Some (k, was)
-            → was.ledger.entered + was.stale < 2 ^ 62 }
+            → was.ledger.marks.entered + was.stale < 2 ^ 62 }
         ensures now { (k : StreamKey) (was : StreamState) → slice_get self.old.entries place ≡ Some (k, was)
             → (now : StreamState) × (self.new.entries ≡ set_value_at self.old.entries place now)
-            × Takes slack arrival uptime sequence was now result }
+            × Takes slack arrival uptime sequence was now result.taken × (result.boot ≡ now.ledger.boot) }
+        ensures place { result.place ≡ place }
         ensures limit { self.new.limit ≡ self.old.limit }
     {
         let stream = &mut self.map[place];
-        stream.take(slack, arrival, uptime, sequence)
+        let taken = stream.take(slack, arrival, uptime, sequence);
+        TakenAt {
+            taken,
+            place: place as u32,
+            boot: stream.boots(),
+        }
     }
 
-    /// Takes a datagram of a stream, with its arrival and its uptime in ms and its sequence word: `Unlisted` exactly
-    /// where the stream is new and there is no room, else what its record answers. The windows have this width, from
-    /// 1 to 1,024; the boot marks of one boot may differ by the slack, in ms.
+    /// Takes a datagram of a stream, with its arrival and its uptime in ms and its sequence number: `None` exactly
+    /// where the stream is new and there is no room, else what is answered of it, its place and its boot. The windows
+    /// have this width, from 1 to 1,024; the boot marks of one boot may differ by the slack, in ms. Fewer than 2^62
+    /// datagrams of each stream were taken before.
     pub fn take(
         &mut self,
         key: StreamKey,
@@ -149,11 +149,11 @@ impl StreamTable {
         arrival: u64,
         uptime: u32,
         sequence: u32,
-    ) -> Taken
+    ) -> Option<TakenAt>
         requires width_from { 1 ≤ width }
         requires width_to { width ≤ 1024 }
         requires few { (p : ℕ) (k : StreamKey) (was : StreamState) → slice_get self.old.entries p ≡ Some (k, was)
-            → was.ledger.entered + was.stale < 2 ^ 62 }
+            → was.ledger.marks.entered + was.stale < 2 ^ 62 }
         ensures stands { (l : Limits) (items : List Item) (d : Datagram) → l.streams ≡ self.old.limit
             → l.datagram_width ≡ width → l.boot_slack ≡ slack → stream_in key ≡ stream_of d
             → IsAt d arrival uptime sequence → StreamsStand l self.old.entries items
@@ -161,21 +161,22 @@ impl StreamTable {
         ensures answer { (l : Limits) (items : List Item) (d : Datagram) → l.streams ≡ self.old.limit
             → l.datagram_width ≡ width → l.boot_slack ≡ slack → stream_in key ≡ stream_of d
             → IsAt d arrival uptime sequence → StreamsStand l self.old.entries items
-            → taken_in_books result ≡ taken_now l items (Got d) }
-        ensures counted { (n : ℕ) → Each stream_in (HasTaken n) self.old.entries
-            → Each stream_in (HasTaken (n + 1)) self.new.entries }
+            → answer_in_books result ≡ taken_now l items (Got d) }
+        ensures place { IfSome result (λ r. (k : StreamKey) × (now : StreamState)
+            × (slice_get self.new.entries r.place ≡ Some (k, now)) × (stream_in k ≡ stream_in key)
+            × (r.boot ≡ now.ledger.boot)) }
         ensures limit { self.new.limit ≡ self.old.limit }
     {
         if let Some(place) = self.place(&key) {
-            return self.take_at(place, slack, arrival, uptime, sequence);
+            return Some(self.take_at(place, slack, arrival, uptime, sequence));
         }
         if self.is_full() {
-            return Taken::Unlisted;
+            return None;
         }
-        self.take_new(key, width, slack, arrival, uptime, sequence)
+        Some(self.take_new(key, width, slack, arrival, uptime, sequence))
     }
 
-    // The same of a stream that isn't listed yet, where there is room.
+    // Takes a datagram of a stream that isn't listed yet, where there is room.
     fn take_new(
         &mut self,
         key: StreamKey,
@@ -184,20 +185,23 @@ impl StreamTable {
         arrival: u64,
         uptime: u32,
         sequence: u32,
-    ) -> Taken
+    ) -> TakenAt
         requires width_from { 1 ≤ width }
         requires width_to { width ≤ 1024 }
         requires room { length self.old.entries < self.old.limit }
         requires new { among same_stream (keys_in stream_in self.old.entries) (stream_in key) ≡ false }
         ensures now { (was : StreamState) × (now : StreamState)
             × (self.new.entries ≡ self.old.entries ++ (key, now) ∷ [])
-            × (was.ledger.width ≡ width) × ((slack : ℕ) → StandsFor slack was [])
-            × Takes slack arrival uptime sequence was now result × (now.ledger.entered + now.stale ≡ 1) }
+            × (was.ledger.marks.width ≡ width) × ((slack : ℕ) → StandsFor slack was [])
+            × Takes slack arrival uptime sequence was now result.taken × (result.boot ≡ now.ledger.boot) }
+        ensures place { result.place ≡ length self.old.entries }
         ensures limit { self.new.limit ≡ self.old.limit }
     {
+        let place = self.map.len() as u32;
         let mut stream = StreamRecord::open(width);
         let taken = stream.take(slack, arrival, uptime, sequence);
+        let boot = stream.boots();
         self.add(key, stream);
-        taken
+        TakenAt { taken, place, boot }
     }
 }

@@ -1,11 +1,8 @@
-//! What a collector may hold, and what it shows: limits, and the views of streams, sources and totals, as plain values
-//! (sFlow Version 5, section 5).
+//! What a collector shows: the views of streams and of sources, as plain values (sFlow Version 5, section 5).
 #![tactic(auto)]
 
-mod limits;
 mod views;
 
+pub use books_spec::{FirstFault, LedgerView, Limits, Totals};
 pub use data_format::{Address, Fault, SourceId};
-pub use limits::Limits;
-pub use source_ledger::LedgerView;
-pub use views::{FirstFault, SourceView, StreamView, Totals};
+pub use views::{SourceView, StreamView};

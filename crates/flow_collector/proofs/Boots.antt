@@ -2,15 +2,21 @@
 use Rattle.std.proofs.Common.{◌≡◌, ℕ, Bool, true, false, cond, List, [], ◌∷◌, length, map, refl, sym, ap, subst, ◌∙◌, true≢false}
 use Rattle.std.specs.List.{filter_map}
 use Rattle.count_spec.specs.Windows.{answer, counted}
-use Rattle.count_spec.specs.Boots.{sequences, BootPlace, Current, Next, Stale, boot_place, placed, boots}
-use Rattle.books_spec.specs.Items.{SourceId, Reading, Sample, Datagram, stamp_of, Item, Got, stream_of, Source, Limits}
+use Rattle.count_spec.specs.Boots.{sequences, boot_place, placed, boots}
+use Rattle.count_spec.specs.declared.boot_place.BootPlace.{BootPlace}
+use Rattle.count_spec.specs.declared.boot_place.BootPlace.TheVariants.{Current, Next, Stale}
+use Rattle.books_spec.specs.Items.{SourceId, Sample, Datagram, stamp_of, Item, Got, stream_of, Source}
+use Rattle.books_spec.specs.declared.reading.SampleReading.{SampleReading}
+use Rattle.books_spec.specs.declared.limits.Limits.{Limits}
 use Rattle.books_spec.specs.Listing.{same_stream, among}
-use Rattle.books_spec.specs.Books.{listed_streams, own, stream_boots, Taken, First, Repeat, Late, Unlisted, Malformed_entry, Spent, taken_of, taken_at, taken_in, taken_now, samples_at, onto, Entered, entered_in, entered, source_of, sources_of, first_samples, reading_of, readings, source_boots}
-use Rattle.books_spec.specs.Books as books
+use Rattle.books_spec.specs.Books.{listed_streams, own, stream_boots, taken_of, taken_at, taken_in, taken_now, samples_at, onto, entered_in, entered, source_of, sources_of, first_samples, reading_of, readings, source_boots}
+use Rattle.books_spec.specs.declared.taken.Taken.{Taken}
+use Rattle.books_spec.specs.declared.taken.Taken.TheVariants.{First, Repeat, Late, Unlisted, Spent}
+use Rattle.books_spec.specs.declared.taken.Taken.TheVariants as takes
 use Rattle.books_spec.proofs.Keys.{stream-same}
 use Rattle.stream_books.specs.Sources.{StandsFor}
 use Rattle.stream_books.specs.declared.source.SourceRecord.{SourceRecord}
-use Rattle.stream_books.specs.declared.source.SourceRecord.TheVariants.{Flow, Counters}
+use Rattle.collector_tables.proofs.Empties.{boot-passes}
 use Rattle.flow_collector.specs.Steps.{is_first, with_samples}
 use Rattle.flow_collector.proofs.Entering.{place-same, taken-same}
 use Rattle.flow_collector.proofs.Lists.{length-map-all}
@@ -21,9 +27,9 @@ samples-none : (t : Taken) → samples_at t [] ≡ []
 samples-none First = refl
 samples-none Repeat = refl
 samples-none Late = refl
-samples-none books.Stale = refl
+samples-none takes.Stale = refl
 samples-none Unlisted = refl
-samples-none Malformed_entry = refl
+samples-none takes.Malformed = refl
 samples-none Spent = refl
 
 pub entered-none : (l : Limits) (items : List Item) (d : Datagram)
@@ -37,27 +43,18 @@ pub sources-none : (l : Limits) (items : List Item) (d : Datagram)
 sources-none l items d = ap (filter_map source_of) (entered-none l items d)
 
 -- boots with one more at most, without an entry
-pub data Grown (old new : List (List Reading)) : Type 0 where
+pub data Grown (old new : List (List SampleReading)) : Type 0 where
   same : new ≡ old → Grown old new
   passed : new ≡ [] ∷ old → Grown old new
 
 -- what stands for boots stands after a boot in which nothing came
-pub grown-stands : (s : SourceRecord) (old new : List (List Reading)) → Grown old new → StandsFor s old → StandsFor s new
+pub grown-stands : (s : SourceRecord) (old new : List (List SampleReading)) → Grown old new → StandsFor s old → StandsFor s new
 grown-stands s old new (same e) st =
-    let P : List (List Reading) → Type 0 = λ bs. StandsFor s bs in
+    let P : List (List SampleReading) → Type 0 = λ bs. StandsFor s bs in
     subst P (sym e) st
 grown-stands s old new (passed e) st =
-    let P : List (List Reading) → Type 0 = λ bs. StandsFor s bs in
-    subst P (sym e) (pass s old st)
-  where
-    pass : (r : SourceRecord) (bs : List (List Reading)) → StandsFor r bs → StandsFor r ([] ∷ bs)
-    pass (Counters c) bs was = was
-    pass (Flow f) bs was = record {
-      marks_stand = was.marks_stand;
-      pool_is = was.pool_is;
-      drops_are = was.drops_are;
-      rate_is = was.rate_is;
-    }
+    let P : List (List SampleReading) → Type 0 = λ bs. StandsFor s bs in
+    subst P (sym e) (boot-passes s old st)
 
 placed-grown : (w : ℕ) (id : SourceId) (d : Datagram) (p : BootPlace) (bs : List (List Datagram))
     → Grown (map (readings w id) bs) (map (readings w id) (placed p (with_samples d []) bs))
@@ -90,9 +87,9 @@ samples-not_first : (t : Taken) (xs : List Sample) → is_first t ≡ false → 
 samples-not_first First xs not = absurd (true≢false not)
 samples-not_first Repeat xs not = refl
 samples-not_first Late xs not = refl
-samples-not_first books.Stale xs not = refl
+samples-not_first takes.Stale xs not = refl
 samples-not_first Unlisted xs not = refl
-samples-not_first Malformed_entry xs not = refl
+samples-not_first takes.Malformed xs not = refl
 samples-not_first Spent xs not = refl
 
 pub entered-not_first : (l : Limits) (items : List Item) (d : Datagram) → is_first (taken_now l items (Got d)) ≡ false

@@ -6,30 +6,31 @@ use Rattle.std.proofs.lemmas.List.Folds.{list_any-append}
 use Rattle.std.proofs.lemmas.List.Sums.{count_by-le-length}
 use Rattle.count_spec.specs.Boots.{sequences, boots, stale_items}
 use Rattle.count_spec.proofs.Counts.{count_by-cons}
-use Rattle.books_spec.specs.Items.{Reading, Sample, Datagram, stamp_of, Item, Got, Malformed, Stream, stream_of, Source, Limits}
+use Rattle.books_spec.specs.Items.{Sample, Datagram, stamp_of, Item, Got, Malformed, Stream, stream_of, Source}
+use Rattle.books_spec.specs.declared.limits.Limits.{Limits}
 use Rattle.books_spec.specs.Listing.{same_stream, same_source, among, first_arrivals}
-use Rattle.books_spec.specs.Books.{listed_streams, own, stream_boots, Taken, First, Repeat, Late, Unlisted, Malformed_entry, Spent, taken_now, samples_at, entered_in, entered, source_of, sources_of, listed_sources, source_boots, mark_in}
-use Rattle.books_spec.specs.Books as books
+use Rattle.books_spec.specs.Books.{listed_streams, own, stream_boots, taken_now, samples_at, entered_in, entered, source_of, sources_of, listed_sources, source_boots}
+use Rattle.books_spec.specs.declared.taken.Taken.{Taken}
+use Rattle.books_spec.specs.declared.taken.Taken.TheVariants.{First, Repeat, Late, Unlisted, Spent}
+use Rattle.books_spec.specs.declared.taken.Taken.TheVariants as takes
 use Rattle.books_spec.proofs.Listings.{IsSame, among-take}
 use Rattle.books_spec.proofs.Keys.{source-same}
 use Rattle.books_spec.proofs.Entered.{unlisted-none, readings-are-entered}
 use Rattle.books_spec.proofs.Adding.{boots-add_up}
-use Rattle.source_ledger.specs.Flows.{mark_of}
-use Rattle.source_ledger.proofs.Trims.{trim-length, trim-sum}
+use Rattle.source_ledger.proofs.Trims.{trim-sum}
 use Rattle.stream_books.specs.Streams.{StreamState}
-use Rattle.stream_books.specs.Sources.{StandsFor, boot_of, entered_count, entry_of}
+use Rattle.stream_books.specs.Sources.{boot_of, entered_count}
+use Rattle.stream_books.proofs.Sources.{record-entered, record-boot}
 use Rattle.stream_books.specs.declared.source.SourceRecord.{SourceRecord}
-use Rattle.stream_books.specs.declared.source.SourceRecord.TheVariants.{Flow, Counters}
 use Rattle.collector_tables.specs.declared.keys.StreamKey.{StreamKey}
 use Rattle.collector_tables.specs.declared.keys.SourceKey.{SourceKey}
 use Rattle.collector_tables.specs.Keys.{stream_in, source_in}
-use Rattle.collector_tables.specs.Tables.{keys_in, Each}
 use Rattle.collector_tables.specs.Listed.{StreamStands, StreamsStand}
 use Rattle.collector_tables.specs.Sources.{AreEmpty, SourceStands, SourcesStand}
-use Rattle.collector_tables.proofs.Tables.{each-at}
+use Rattle.collector_tables.proofs.Tables.{among-at, each-at}
 use Rattle.flow_collector.specs.Collectors.{AreFew}
 use Rattle.flow_collector.proofs.Boots.{source-boots-length}
-use Rattle.flow_collector.proofs.Lists.{length-onto, length-map-all, length-filter_map, each-listed, absent-count, not-arrived, none-empty, map-sum}
+use Rattle.flow_collector.proofs.Lists.{length-onto, length-map-all, length-filter_map, absent-count, not-arrived, none-empty, map-sum}
 
 -- ---- entered samples
 
@@ -37,9 +38,9 @@ samples-few : (t : Taken) (xs : List Sample) → length (samples_at t xs) ≤ le
 samples-few First xs = omega arith
 samples-few Repeat xs = omega arith
 samples-few Late xs = omega arith
-samples-few books.Stale xs = omega arith
+samples-few takes.Stale xs = omega arith
 samples-few Unlisted xs = omega arith
-samples-few Malformed_entry xs = omega arith
+samples-few takes.Malformed xs = omega arith
 samples-few Spent xs = omega arith
 
 pub entered-few : (l : Limits) (items : List Item) → AreFew items → length (entered l items) ≤ 8191 * length items
@@ -124,55 +125,24 @@ fresh-empty l items k there none =
 
 -- ---- what is kept of a source
 
-record-entered : (s : SourceRecord) (bs : List (List Reading)) → StandsFor s bs → entered_count s ≡ sum_by length bs
-record-entered (Counters c) bs st =
-    st.all_entered ∙ trim-sum length (map (map mark_in) bs) refl ∙ map-sum mark_in bs
-record-entered (Flow f) bs st =
-    st.marks_stand.all_entered ∙ trim-sum length (map (map mark_of) (map (map entry_of) bs)) refl
-    ∙ map-sum mark_of (map (map entry_of) bs) ∙ map-sum entry_of bs
-
-record-boot : (s : SourceRecord) (bs : List (List Reading)) → StandsFor s bs → boot_of s ≤ length bs
-record-boot (Counters c) bs st =
-    let is = st.boot_is in
-    let few = trim-length (map (map mark_in) bs) in
-    let same = length-map-all (map mark_in) bs in
-    omega (arith, is, few, same)
-record-boot (Flow f) bs st =
-    let is = st.marks_stand.boot_is in
-    let few = trim-length (map (map mark_of) (map (map entry_of) bs)) in
-    let one = length-map-all (map mark_of) (map (map entry_of) bs) in
-    let two = length-map-all (map entry_of) bs in
-    omega (arith, is, few, one, two)
-
--- the key at a place is one of the table
-pub key-among : {K V S : Type 0} (key : K → S) (same : S → S → Bool) (laws : IsSame same) (entries : List (K × V))
-    (place : ℕ) (k : K) (v : V) → slice_get entries place ≡ Some (k, v) → among same (keys_in key entries) (key k) ≡ true
-key-among {K} {V} {S} key same laws entries place k v at =
-    let N : S → V → Type 0 = λ t u. Unit {0} in
-    let Q : S → V → Type 0 = λ t u. among same (keys_in key entries) t ≡ true in
-    each-at key Q entries place k v at (each-listed same laws key N Q entries (λ t u there n. there) (each-any entries))
-  where
-    each-any : (es : List (K × V)) → Each key (λ (t : S) (u : V). Unit {0}) es
-    each-any [] = tt
-    each-any (e ∷ more) = (tt, each-any more)
-
 pub source-kept : (l : Limits) (items : List Item) (entries : List (SourceKey × SourceRecord)) (place : ℕ) (k : SourceKey)
     (was : SourceRecord) → slice_get entries place ≡ Some (k, was)
-    → SourcesStand l.sources l.sample_width entries (sources_of l items) (λ s. source_boots l s items)
-    → (boot_of was ≤ length (stream_boots l (source_in k).stream items))
+    → SourcesStand (listed_streams l items) l.sources l.sample_width entries (sources_of l items) (λ s. source_boots l s items)
+    → (boot_of was ≤ length (stream_boots l (source_in (listed_streams l items) k).stream items))
     × (entered_count was ≤ length (sources_of l items))
-    × (among same_stream (listed_streams l items) (source_in k).stream ≡ true)
 source-kept l items entries place k was at st =
-    let own_stands = each-at source_in (SourceStands l.sample_width (λ s. source_boots l s items)) entries place k was at st.each in
-    let P : List Source → Type 0 = λ keys. among same_source keys (source_in k) ≡ true in
-    let there = subst P st.keys_are (key-among source_in same_source source-same entries place k was at) in
-    let stream = source-stream l items (source_in k) there in
-    let boot = record-boot was (source_boots l (source_in k) items) own_stands.stands in
-    let long = source-boots-length l (source_in k) items in
-    let all = record-entered was (source_boots l (source_in k) items) own_stands.stands in
-    let sum = readings-are-entered l (source_in k) items stream in
-    let some = count_by-le-length (same_source (source_in k)) (sources_of l items) in
-    (omega (arith, boot, long), omega (arith, all, sum, some), stream)
+    let name : SourceKey → Source = source_in (listed_streams l items) in
+    let own_stands = each-at name (SourceStands l.sample_width (λ s. source_boots l s items)) entries place k was at
+    st.table.each in
+    let P : List Source → Type 0 = λ keys. among same_source keys (name k) ≡ true in
+    let there = subst P st.table.keys_are (among-at name same_source source-same entries place k was at) in
+    let stream = source-stream l items (name k) there in
+    let boot = record-boot was (source_boots l (name k) items) own_stands.stands in
+    let long = source-boots-length l (name k) items in
+    let all = record-entered was (source_boots l (name k) items) own_stands.stands in
+    let sum = readings-are-entered l (name k) items stream in
+    let some = count_by-le-length (same_source (name k)) (sources_of l items) in
+    (omega (arith, boot, long), omega (arith, all, sum, some))
 
 -- ---- what is kept of a stream
 
@@ -190,14 +160,14 @@ own-few stream (Got d ∷ before) = go (same_stream stream (stream_of d)) (own-f
 
 pub stream-kept : (l : Limits) (items : List Item) (entries : List (StreamKey × StreamState)) (place : ℕ) (k : StreamKey)
     (was : StreamState) → slice_get entries place ≡ Some (k, was) → StreamsStand l entries items
-    → was.ledger.entered + was.stale ≤ length items
+    → was.ledger.marks.entered + was.stale ≤ length items
 stream-kept l items entries place k was at st =
     let own_stands = each-at stream_in (StreamStands l items) entries place k was at st.each in
     let ds : List Datagram = own (stream_in k) items in
-    let bs : List (List Datagram) = boots stamp_of l.boot_slack was.ledger.width ds in
-    let all : was.ledger.entered ≡ sum_by length bs = own_stands.stands.ledger_stands.all_entered
+    let bs : List (List Datagram) = boots stamp_of l.boot_slack was.ledger.marks.width ds in
+    let all : was.ledger.marks.entered ≡ sum_by length bs = own_stands.stands.ledger_stands.marks_stand.all_entered
     ∙ trim-sum length (map (sequences stamp_of) bs) refl ∙ map-sum (λ (d : Datagram). d.head.sequence) bs in
-    let stale : was.stale ≡ length (stale_items stamp_of l.boot_slack was.ledger.width ds) = own_stands.stands.stale_are in
-    let sum = boots-add_up stamp_of l.boot_slack was.ledger.width ds in
+    let stale : was.stale ≡ length (stale_items stamp_of l.boot_slack was.ledger.marks.width ds) = own_stands.stands.stale_are in
+    let sum = boots-add_up stamp_of l.boot_slack was.ledger.marks.width ds in
     let few = own-few (stream_in k) items in
     omega (arith, all, stale, sum, few)

@@ -2,11 +2,17 @@
 use Rattle.std.proofs.Common.{◌≡◌, ℕ, Bool, true, false, cond, ◌&&◌, Option, Some, None, List, [], ◌∷◌, ◌++◌, map, refl, sym, ap, ◌∙◌, true≢false}
 use Rattle.std.specs.List.{filter_map, cons_option}
 use Rattle.count_spec.specs.Windows.{answer, counted}
-use Rattle.count_spec.specs.Boots.{sequences, BootPlace, Current, Next, Stale, boot_place, placed, boots}
-use Rattle.books_spec.specs.Items.{SourceId, Reading, Sample, Of, Other, Datagram, stamp_of, Item, Got, stream_of, Source, Limits}
+use Rattle.count_spec.specs.Boots.{sequences, boot_place, placed, boots}
+use Rattle.count_spec.specs.declared.boot_place.BootPlace.{BootPlace}
+use Rattle.count_spec.specs.declared.boot_place.BootPlace.TheVariants.{Current, Next, Stale}
+use Rattle.books_spec.specs.Items.{SourceId, Sample, Of, Other, Datagram, stamp_of, Item, Got, stream_of, Source}
+use Rattle.books_spec.specs.declared.reading.SampleReading.{SampleReading}
+use Rattle.books_spec.specs.declared.limits.Limits.{Limits}
 use Rattle.books_spec.specs.Listing.{same_stream, same_id, among}
-use Rattle.books_spec.specs.Books.{listed_streams, own, stream_boots, Taken, First, Repeat, Late, Unlisted, Malformed_entry, Spent, taken_of, taken_at, taken_in, taken_now, samples_at, onto, Entered, entered_in, entered, source_in, source_of, sources_of, first_samples, reading_of, readings, source_boots}
-use Rattle.books_spec.specs.Books as books
+use Rattle.books_spec.specs.Books.{listed_streams, own, stream_boots, taken_of, taken_at, taken_in, taken_now, samples_at, onto, entered_in, entered, source_in, source_of, sources_of, first_samples, reading_of, readings, source_boots}
+use Rattle.books_spec.specs.declared.taken.Taken.{Taken}
+use Rattle.books_spec.specs.declared.taken.Taken.TheVariants.{First, Repeat, Late, Unlisted, Spent}
+use Rattle.books_spec.specs.declared.taken.Taken.TheVariants as takes
 use Rattle.books_spec.proofs.Keys.{stream-same, id-same}
 use Rattle.collector_tables.specs.Sources.{with_reading, after_reading}
 use Rattle.flow_collector.specs.Steps.{with_samples, with_sample}
@@ -49,7 +55,7 @@ sources-one_more l items d x first = ap (filter_map source_of) (entered-one_more
 -- ---- readings over boots
 
 -- the boots with one reading more in the current one, if there is one
-abbrev pub with_option : Option Reading → List (List Reading) → List (List Reading)
+abbrev pub with_option : Option SampleReading → List (List SampleReading) → List (List SampleReading)
 with_option None boots = boots
 with_option (Some r) boots = with_reading r boots
 
@@ -64,16 +70,16 @@ readings-one_more w id d x before first =
     ∙ ap (λ t. x ∷ onto (samples_at t d.samples) rest) (sym first) in
     ap (filter_map (reading_of id)) more
 
-one-more-boot : (o : Option Reading) (current : List Reading) (closed : List (List Reading))
+one-more-boot : (o : Option SampleReading) (current : List SampleReading) (closed : List (List SampleReading))
     → cons_option o current ∷ closed ≡ with_option o (current ∷ closed)
 one-more-boot None current closed = refl
 one-more-boot (Some r) current closed = refl
 
-pub stale-first : (A : Type 0) → books.Stale ≡ First → A
+pub stale-first : (A : Type 0) → takes.Stale ≡ First → A
 stale-first A e = absurd (true≢false (ap is_stale e))
   where
     is_stale : Taken → Bool
-    is_stale books.Stale = true
+    is_stale takes.Stale = true
     is_stale _ = false
 
 boots-one_more : (w : ℕ) (id : SourceId) (d : Datagram) (x : Sample) (p : BootPlace) (bs : List (List Datagram))
@@ -114,7 +120,7 @@ first-in l items d first =
     (taken_in l (stream_boots l (stream_of d) items) d) first).1
 
 -- the readings of a source over the datagrams of its stream, of which this may be one more
-boots_if : Limits → SourceId → List Datagram → Datagram → Bool → List (List Reading)
+boots_if : Limits → SourceId → List Datagram → Datagram → Bool → List (List SampleReading)
 boots_if l id ds d b =
     map (readings l.datagram_width id) (boots stamp_of l.boot_slack l.datagram_width (cond b (d ∷ ds) ds))
 
@@ -141,18 +147,18 @@ source-boots-one_more l items d x k first = go (same_stream k.stream (stream_of 
         ∙ boots-one_more l.datagram_width k.id d x (boot_place stamp_of l.boot_slack l.datagram_width bs d) bs there
 
 -- one reading more of a source
-pub source-boots-of : (l : Limits) (items : List Item) (d : Datagram) (id : SourceId) (r : Reading) (k : Source)
+pub source-boots-of : (l : Limits) (items : List Item) (d : Datagram) (id : SourceId) (r : SampleReading) (k : Source)
     → taken_now l items (Got d) ≡ First
     → after_reading (record { stream = stream_of d; id = id }) r (λ s. source_boots l s (Got d ∷ items)) k
     ≡ source_boots l k (Got (with_sample d (Of id r)) ∷ items)
 source-boots-of l items d id r k first =
-    let bs : List (List Reading) = source_boots l k (Got d ∷ items) in
+    let bs : List (List SampleReading) = source_boots l k (Got d ∷ items) in
     (λ j. cond (either-way same_stream stream-same (stream_of d) k.stream j && either-way same_id id-same id k.id j)
     (with_reading r bs) bs)
     ∙ go (same_stream k.stream (stream_of d)) (same_id k.id id) bs
     ∙ sym (source-boots-one_more l items d (Of id r) k first)
   where
-    go : (b c : Bool) (bs : List (List Reading))
+    go : (b c : Bool) (bs : List (List SampleReading))
         → cond (b && c) (with_reading r bs) bs ≡ cond b (with_option (cond c (Some r) None) bs) bs
     go true true bs = refl
     go true false bs = refl
@@ -166,6 +172,6 @@ source-boots-other l items d k first =
     go (same_stream k.stream (stream_of d)) (source_boots l k (Got d ∷ items))
     ∙ sym (source-boots-one_more l items d Other k first)
   where
-    go : (b : Bool) (bs : List (List Reading)) → bs ≡ cond b bs bs
+    go : (b : Bool) (bs : List (List SampleReading)) → bs ≡ cond b bs bs
     go true bs = refl
     go false bs = refl

@@ -1,61 +1,74 @@
 -- One reading more of a source, as the table of sources enters it.
 use Rattle.std.proofs.Common.{◌≡◌, ◌∙◌, ℕ, ◌+◌, Bool, false, if◌then◌else◌, List, ◌∷◌, length, sym, subst}
-use Rattle.books_spec.specs.Items.{SourceId, Reading, Of, Datagram, Item, Got, Stream, stream_of, Source, Limits}
+use Rattle.books_spec.specs.declared.limits.Limits.{Limits}
+use Rattle.books_spec.specs.declared.reading.SampleReading.{SampleReading}
+use Rattle.books_spec.specs.Items.{Of, Datagram, Item, Got, Stream, stream_of, Source}
 use Rattle.books_spec.specs.Listing.{same_source, among, first_arrivals, unlisted}
-use Rattle.books_spec.specs.Books.{First, taken_now, sources_of, source_boots}
+use Rattle.books_spec.specs.Books.{listed_streams, sources_of, source_boots}
 use Rattle.stream_books.specs.declared.source.SourceRecord.{SourceRecord}
 use Rattle.collector_tables.specs.declared.keys.SourceKey.{SourceKey}
+use Rattle.collector_tables.specs.Keys.{id_in, source_in, IsPlaced}
 use Rattle.collector_tables.specs.Tables.{Table}
 use Rattle.collector_tables.specs.Sources.{AreEmpty, SourcesStand, after_reading}
 use Rattle.flow_collector.specs.Collectors.{CollectorState, StandsFor}
-use Rattle.flow_collector.specs.Steps.{with_sample, boot_number}
+use Rattle.flow_collector.specs.Steps.{with_sample, Enters, boot_number}
 use Rattle.flow_collector.proofs.Entering.{first-listed}
 use Rattle.flow_collector.proofs.Counts.{fresh-empty}
+use Rattle.flow_collector.proofs.Found.{stream-found, key-placed}
 use Rattle.flow_collector.proofs.Kept.{HasBoot, has-boot}
 use Rattle.flow_collector.proofs.Moves.{with_listed, of-stands}
 
-abbrev pub source_at : Stream → SourceId → Source
-source_at stream id = record { stream = stream; id = id }
-
 -- what the table of sources promises of one reading more
-pub record EnterStep (old now : List (SourceKey × SourceRecord)) (id : SourceId) (r : Reading) (boot : ℕ) (found : Bool)
-    (stream : Stream) (limit width : ℕ) : Type 0 where
-  pub stands : (arrived : List Source) (boots_of : Source → List (List Reading))
-      (current : List Reading) (closed : List (List Reading)) → boots_of (source_at stream id) ≡ current ∷ closed
-      → length closed + 1 ≡ boot
-      → (among same_source (first_arrivals same_source arrived) (source_at stream id) ≡ false → AreEmpty (current ∷ closed))
-      → SourcesStand limit width old arrived boots_of
-      → SourcesStand limit width now (source_at stream id ∷ arrived) (after_reading (source_at stream id) r boots_of)
-  pub counted : (arrived : List Source) (boots_of : Source → List (List Reading))
-      → SourcesStand limit width old arrived boots_of
-      → unlisted same_source limit (source_at stream id ∷ arrived)
+pub record EnterStep (old now : List (SourceKey × SourceRecord)) (key : SourceKey) (r : SampleReading) (boot : ℕ)
+    (found : Bool) (limit width : ℕ) : Type 0 where
+  pub stands : (streams : List Stream) (arrived : List Source) (boots_of : Source → List (List SampleReading))
+      (current : List SampleReading) (closed : List (List SampleReading)) → IsPlaced streams key
+      → boots_of (source_in streams key) ≡ current ∷ closed → length closed + 1 ≡ boot
+      → (among same_source (first_arrivals same_source arrived) (source_in streams key) ≡ false
+      → AreEmpty (current ∷ closed))
+      → SourcesStand streams limit width old arrived boots_of
+      → SourcesStand streams limit width now (source_in streams key ∷ arrived)
+      (after_reading (source_in streams key) r boots_of)
+  pub counted : (streams : List Stream) (arrived : List Source) (boots_of : Source → List (List SampleReading))
+      → IsPlaced streams key → SourcesStand streams limit width old arrived boots_of
+      → unlisted same_source limit (source_in streams key ∷ arrived)
       ≡ unlisted same_source limit arrived + (if found then 0 else 1)
 
-pub enters-stands : (s : CollectorState) (l : Limits) (items : List Item) (d : Datagram) (id : SourceId) (r : Reading)
-    (sources : Table SourceKey SourceRecord) (found : Bool) (unlisted_now boot : ℕ) (stream : Stream)
-    → taken_now l items (Got d) ≡ First → stream ≡ stream_of d → boot ≡ boot_number l items d
-    → EnterStep s.sources.entries sources.entries id r boot found stream s.sources.limit s.limits.sample_width
+pub enters-stands : (s : CollectorState) (l : Limits) (items : List Item) (d : Datagram) (key : SourceKey)
+    (r : SampleReading) (sources : Table SourceKey SourceRecord) (found : Bool) (unlisted_now boot : ℕ)
+    → Enters l items key.stream boot d
+    → EnterStep s.sources.entries sources.entries key r boot found s.sources.limit s.limits.sample_width
     → unlisted_now ≡ s.totals.unlisted_samples + (if found then 0 else 1)
     → sources.limit ≡ s.sources.limit → StandsFor s l (Got d ∷ items)
     → StandsFor (record s { sources = sources; totals = with_listed s.totals unlisted_now }) l
-    (Got (with_sample d (Of id r)) ∷ items)
-enters-stands s l items d id r sources found unlisted_now boot stream first this number step count limit st =
-    let A : Stream → Type 0 = λ x. EnterStep s.sources.entries sources.entries id r boot found x s.sources.limit
-    s.limits.sample_width in
-    let B : ℕ → Type 0 = λ n. EnterStep s.sources.entries sources.entries id r boot found (stream_of d) n
-    s.limits.sample_width in
-    let C : Limits → Type 0 = λ x. EnterStep s.sources.entries sources.entries id r boot found (stream_of d) l.sources
-    x.sample_width in
-    let entered : EnterStep s.sources.entries sources.entries id r boot found (stream_of d) l.sources l.sample_width =
-    subst C st.limits_are (subst B st.source_limit (subst A this step)) in
-    let boots_of : Source → List (List Reading) = λ k. source_boots l k (Got d ∷ items) in
+    (Got (with_sample d (Of (id_in key) r)) ∷ items)
+enters-stands s l items d key r sources found unlisted_now boot enters step count limit st =
+    let B : ℕ → Type 0 = λ n. EnterStep s.sources.entries sources.entries key r boot found n s.limits.sample_width in
+    let C : Limits → Type 0 = λ x. EnterStep s.sources.entries sources.entries key r boot found l.sources x.sample_width in
+    let entered : EnterStep s.sources.entries sources.entries key r boot found l.sources l.sample_width =
+    subst C st.limits_are (subst B st.source_limit step) in
+    let streams : List Stream = listed_streams l (Got d ∷ items) in
+    let boots_of : Source → List (List SampleReading) = λ k. source_boots l k (Got d ∷ items) in
     let arrived : List Source = sources_of l (Got d ∷ items) in
-    let source : Source = source_at (stream_of d) id in
-    let boots : HasBoot (boots_of source) (boot_number l items d) = has-boot l items d id first in
-    of-stands s l items d id r sources found unlisted_now first count limit
-    (entered.stands arrived boots_of boots.current boots.closed boots.boots_are (boots.number_is ∙ sym number)
+    let source : Source = record { stream = stream_of d; id = id_in key } in
+    let placed : IsPlaced streams key = key-placed l (Got d ∷ items) key (stream_of d) enters.found.at in
+    let stream = stream-found streams key.stream (stream_of d) enters.found.at in
+    let name : source_in streams key ≡ source = λ j. record { stream = stream j; id = id_in key } in
+    let boots : HasBoot (boots_of source) (boot_number l items d) = has-boot l items d (id_in key) enters.first in
+    let H : Source → Type 0 = λ x. HasBoot (boots_of x) (boot_number l items d) in
+    let own : HasBoot (boots_of (source_in streams key)) (boot_number l items d) = subst H (sym name) boots in
+    let F : Source → Type 0 = λ x. among same_source (first_arrivals same_source arrived) x ≡ false → AreEmpty (boots_of x) in
+    let fresh : F (source_in streams key) = subst F (sym name)
+    (fresh-empty l (Got d ∷ items) source (first-listed l items d enters.first)) in
+    let S : Source → Type 0 = λ x. SourcesStand streams l.sources l.sample_width sources.entries (x ∷ arrived)
+    (after_reading x r boots_of) in
+    let U : Source → Type 0 = λ x. unlisted same_source l.sources (x ∷ arrived)
+    ≡ unlisted same_source l.sources arrived + (if found then 0 else 1) in
+    of-stands s l items d (id_in key) r sources found unlisted_now enters.first count limit
+    (subst S name (entered.stands streams arrived boots_of own.current own.closed placed own.boots_are
+    (own.number_is ∙ sym enters.found.boot_is)
     (λ none.
-    let P : List (List Reading) → Type 0 = λ bs. AreEmpty bs in
-    subst P boots.boots_are (fresh-empty l (Got d ∷ items) source (first-listed l items d first) none))
-    st.sources_stand)
-    (entered.counted arrived boots_of st.sources_stand) st
+    let P : List (List SampleReading) → Type 0 = λ bs. AreEmpty bs in
+    subst P own.boots_are (fresh none))
+    st.sources_stand))
+    (subst U name (entered.counted streams arrived boots_of placed st.sources_stand)) st

@@ -4,14 +4,17 @@ use Rattle.std.specs.Option.{is_some}
 use Rattle.std.specs.List.{count_by}
 use Rattle.std.proofs.lemmas.Bool.{leb-true}
 use Rattle.std.proofs.lemmas.List.Sums.{count_by-le-length}
-use Rattle.count_spec.specs.Boots.{BootPlace, Current, Next, Stale, boot_place, placed, boots}
-use Rattle.books_spec.specs.Items.{SourceId, Reading, Datagram, stamp_of, Item, Got, Malformed, Stream, stream_of, Source}
-use Rattle.books_spec.specs.Items as books
+use Rattle.count_spec.specs.Boots.{boot_place, placed, boots}
+use Rattle.count_spec.specs.declared.boot_place.BootPlace.{BootPlace}
+use Rattle.count_spec.specs.declared.boot_place.BootPlace.TheVariants.{Current, Next, Stale}
+use Rattle.books_spec.specs.Items.{SourceId, Datagram, stamp_of, Item, Got, Malformed, stream_of, Source}
+use Rattle.books_spec.specs.declared.reading.SampleReading.{SampleReading}
 use Rattle.books_spec.specs.Listing.{same_stream, same_source, among, listed, unlisted}
-use Rattle.books_spec.specs.Books.{is_malformed, streams_of, First, taken_at, taken_now, entered, Entered, is_other, own, stream_boots, sources_of, source_boots}
+use Rattle.books_spec.specs.Books.{is_malformed, streams_of, taken_at, taken_now, entered, Entered, is_other, own, stream_boots, sources_of, source_boots}
+use Rattle.books_spec.specs.declared.taken.Taken.TheVariants.{First}
 use Rattle.books_spec.proofs.Keys.{stream-same, and-split}
-use Rattle.collector_views.specs.declared.limits.Limits.{Limits}
-use Rattle.collector_views.specs.Limits.{limits_in, is_within, refused_limit}
+use Rattle.books_spec.specs.declared.limits.Limits.{Limits}
+use Rattle.books_spec.specs.Limits.{is_within, refused_limit}
 use Rattle.flow_collector.specs.Collectors.{CollectorState, StandsFor, AreFew, AreWithin}
 use Rattle.flow_collector.proofs.Entering.{first-in, stale-first}
 use Rattle.flow_collector.proofs.Boots.{source-boots-length}
@@ -31,7 +34,7 @@ range n least most e =
     let parts = and-split (nat_le least n) (nat_le n most) e in
     (leb-true least n parts.0, leb-true n most parts.1)
 
-pub within-ranges : (l : Limits) → refused_limit l ≡ None → AreWithin (limits_in l)
+pub within-ranges : (l : Limits) → refused_limit l ≡ None → AreWithin l
 within-ranges l e =
     let one = passed (is_within l.streams 1 4096) _ 1 e in
     let two = passed (is_within l.sources 1 65536) _ 2 one.1 in
@@ -49,11 +52,11 @@ within-ranges l e =
 
 -- ---- no count overflows
 
-pub entries-are : (s : CollectorState) (l : books.Limits) (items : List Item) → StandsFor s l items
+pub entries-are : (s : CollectorState) (l : Limits) (items : List Item) → StandsFor s l items
     → s.totals.entries ≡ length items
 entries-are s l items st = ap (λ t. t.entries) st.totals_are
 
-pub malformed-few : (s : CollectorState) (l : books.Limits) (items : List Item) → StandsFor s l items
+pub malformed-few : (s : CollectorState) (l : Limits) (items : List Item) → StandsFor s l items
     → s.totals.malformed ≤ length items
 malformed-few s l items st =
     let is : s.totals.malformed ≡ count_by is_malformed items = ap (λ t. t.malformed) st.totals_are in
@@ -65,7 +68,7 @@ streams-few [] = omega arith
 streams-few (Got d ∷ before) = let later = streams-few before in omega (arith, later)
 streams-few (Malformed f ∷ before) = let later = streams-few before in omega (arith, later)
 
-pub unlisted-few : (s : CollectorState) (l : books.Limits) (items : List Item) → StandsFor s l items
+pub unlisted-few : (s : CollectorState) (l : Limits) (items : List Item) → StandsFor s l items
     → s.totals.unlisted ≤ length items
 unlisted-few s l items st =
     let is : s.totals.unlisted ≡ unlisted same_stream l.streams (streams_of items) = ap (λ t. t.unlisted) st.totals_are in
@@ -74,7 +77,7 @@ unlisted-few s l items st =
     let all = streams-few items in
     omega (arith, is, few, all)
 
-pub unlisted_samples-few : (s : CollectorState) (l : books.Limits) (items : List Item) → StandsFor s l items
+pub unlisted_samples-few : (s : CollectorState) (l : Limits) (items : List Item) → StandsFor s l items
     → AreFew items → s.totals.unlisted_samples ≤ 8191 * length items
 unlisted_samples-few s l items st few_samples =
     let is : s.totals.unlisted_samples ≡ unlisted same_source l.sources (sources_of l items) =
@@ -84,7 +87,7 @@ unlisted_samples-few s l items st few_samples =
     let all = sources-few l items few_samples in
     omega (arith, is, few, all)
 
-pub other-few : (s : CollectorState) (l : books.Limits) (items : List Item) → StandsFor s l items
+pub other-few : (s : CollectorState) (l : Limits) (items : List Item) → StandsFor s l items
     → AreFew items → s.totals.other ≤ 8191 * length items
 other-few s l items st few_samples =
     let is : s.totals.other ≡ count_by (λ (e : Entered). is_other e.sample) (entered l items) =
@@ -96,13 +99,13 @@ other-few s l items st few_samples =
 -- ---- the boot of a datagram whose samples are entered
 
 -- readings stand in a current boot, and there are so many closed ones
-pub record HasBoot (boots : List (List Reading)) (number : ℕ) : Type 0 where
-  pub current : List Reading
-  pub closed : List (List Reading)
+pub record HasBoot (boots : List (List SampleReading)) (number : ℕ) : Type 0 where
+  pub current : List SampleReading
+  pub closed : List (List SampleReading)
   pub boots_are : boots ≡ current ∷ closed
   pub number_is : length closed + 1 ≡ number
 
-some-boot : (bs : List (List Reading)) → 1 ≤ length bs → HasBoot bs (length bs)
+some-boot : (bs : List (List SampleReading)) → 1 ≤ length bs → HasBoot bs (length bs)
 some-boot [] none = absurd (omega (arith, none))
 some-boot (current ∷ closed) some =
     record { current = current; closed = closed; boots_are = refl; number_is = omega arith }
@@ -114,7 +117,7 @@ placed-some w Current d (current ∷ closed) first = omega arith
 placed-some w Next d bs first = omega arith
 placed-some w Stale d bs first = stale-first (1 ≤ length bs) first
 
-pub boots-some : (l : books.Limits) (items : List Item) (d : Datagram) → taken_now l items (Got d) ≡ First
+pub boots-some : (l : Limits) (items : List Item) (d : Datagram) → taken_now l items (Got d) ≡ First
     → 1 ≤ length (stream_boots l (stream_of d) (Got d ∷ items))
 boots-some l items d first = go (same_stream (stream_of d) (stream_of d)) (stream-same.self (stream_of d))
   where
@@ -125,7 +128,7 @@ boots-some l items d first = go (same_stream (stream_of d) (stream_of d)) (strea
         let bs : List (List Datagram) = stream_boots l (stream_of d) items in
         placed-some l.datagram_width (boot_place stamp_of l.boot_slack l.datagram_width bs d) d bs (first-in l items d first)
 
-pub has-boot : (l : books.Limits) (items : List Item) (d : Datagram) (id : SourceId) → taken_now l items (Got d) ≡ First
+pub has-boot : (l : Limits) (items : List Item) (d : Datagram) (id : SourceId) → taken_now l items (Got d) ≡ First
     → HasBoot (source_boots l (record { stream = stream_of d; id = id }) (Got d ∷ items))
     (length (stream_boots l (stream_of d) (Got d ∷ items)))
 has-boot l items d id first =

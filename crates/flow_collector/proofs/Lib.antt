@@ -4,6 +4,7 @@ pub mod Entering
 pub mod Boots
 pub mod Counts
 pub mod Steps
+pub mod Found
 pub mod Moves
 pub mod Kept
 pub mod Enters

@@ -52,7 +52,7 @@ or-none : (a b : Bool) → (a || b) ≡ false → (a ≡ false) × (b ≡ false)
 or-none true b h = absurd (true≢false h)
 or-none false b h = (refl, h)
 
-or-more : (a b : Bool) → b ≡ true → (a || b) ≡ true
+pub or-more : (a b : Bool) → b ≡ true → (a || b) ≡ true
 or-more true b h = refl
 or-more false b h = h
 

@@ -3,9 +3,15 @@ use Rattle.std.proofs.Common.{◌≡◌, ℕ, ◌+◌, Bool, true, false, cond, 
 use Rattle.std.specs.List.{count_by, filter_map}
 use Rattle.count_spec.proofs.Counts.{count_by-cons}
 use Rattle.wire_spec.specs.declared.fault.Fault.{Fault}
-use Rattle.books_spec.specs.Items.{SourceId, Reading, Sample, Of, Other, Datagram, Item, Got, Malformed, stream_of, Source, Limits}
+use Rattle.books_spec.specs.Items.{SourceId, Sample, Of, Other, Datagram, Item, Got, Malformed, Stream, stream_of, Source}
+use Rattle.books_spec.specs.declared.reading.SampleReading.{SampleReading}
+use Rattle.books_spec.specs.declared.limits.Limits.{Limits}
 use Rattle.books_spec.specs.Listing.{same_source, among, listed, unlisted}
-use Rattle.books_spec.specs.Books.{is_malformed, FirstFault, fault_after, first_fault, Taken, First, taken_now, entered_in, Entered, source_of, is_other, entered, sources_of, source_boots, Totals, totals}
+use Rattle.books_spec.specs.Books.{is_malformed, fault_after, first_fault, listed_streams, taken_now, entered_in, Entered, source_of, is_other, entered, sources_of, source_boots, totals}
+use Rattle.books_spec.specs.declared.taken.Taken.{Taken}
+use Rattle.books_spec.specs.declared.taken.Taken.TheVariants.{First}
+use Rattle.books_spec.specs.declared.totals.Totals.{Totals}
+use Rattle.books_spec.specs.declared.totals.FirstFault.{FirstFault}
 use Rattle.books_spec.proofs.Keys.{source-same}
 use Rattle.stream_books.specs.Sources.{StandsFor as KeepsSource}
 use Rattle.stream_books.specs.Streams.{StreamState}
@@ -16,27 +22,28 @@ use Rattle.collector_tables.specs.Keys.{source_in}
 use Rattle.collector_tables.specs.Tables.{Table, keys_in}
 use Rattle.collector_tables.specs.Listed.{StreamsStand}
 use Rattle.collector_tables.specs.Sources.{SourceStands, SourcesStand, after_reading}
-use Rattle.collector_tables.proofs.Tables.{each-map}
+use Rattle.collector_tables.proofs.Tables.{each-map, each-renamed, keys-renamed}
 use Rattle.flow_collector.specs.Collectors.{CollectorState, StandsFor}
 use Rattle.flow_collector.specs.Steps.{is_first, is_unlisted, with_samples, with_sample}
 use Rattle.flow_collector.proofs.Entering.{entered-one_more, sources-one_more, source-boots-of, source-boots-other}
 use Rattle.flow_collector.proofs.Boots.{sources-none, grown-stands, source-boots-none, entered-not_first, source-boots-not_first}
 use Rattle.flow_collector.proofs.Counts.{source-stream}
+use Rattle.flow_collector.proofs.Found.{names-stay, places-stay}
 use Rattle.flow_collector.proofs.Lists.{each-listed}
-use Rattle.flow_collector.proofs.Steps.{streams-same, streams-malformed, faulty, totals-malformed, headed, totals-head, totals-not_first}
+use Rattle.flow_collector.proofs.Steps.{streams-same, streams-malformed, with_fault, totals-malformed, with_datagram, totals-head, totals-not_first}
 
 -- ---- a fault
 
 pub reject-stands : (s : CollectorState) (l : Limits) (items : List Item) (f : Fault) (first : Option FirstFault)
     → first ≡ fault_after s.totals.first_fault s.totals.entries (Malformed f) → StandsFor s l items
-    → StandsFor (record s { totals = record (faulty s.totals f) { first_fault = first } }) l (Malformed f ∷ items)
+    → StandsFor (record s { totals = record (with_fault s.totals f) { first_fault = first } }) l (Malformed f ∷ items)
 reject-stands s l items f first is st = record {
   limits_are = st.limits_are;
   stream_limit = st.stream_limit;
   source_limit = st.source_limit;
   streams_stand = streams-malformed l s.streams.entries items f st.streams_stand;
   sources_stand = st.sources_stand;
-  totals_are = (λ j. record (faulty s.totals f) { first_fault = is j }) ∙ ap (λ t. faulty t f) st.totals_are
+  totals_are = (λ j. record (with_fault s.totals f) { first_fault = is j }) ∙ ap (λ t. with_fault t f) st.totals_are
       ∙ totals-malformed l items f;
 }
 
@@ -46,28 +53,37 @@ pub head-stands : (s : CollectorState) (l : Limits) (items : List Item) (d : Dat
     (streams : Table StreamKey StreamState) (t : Taken) (unlisted_now : ℕ) → t ≡ taken_now l items (Got d)
     → unlisted_now ≡ s.totals.unlisted + cond (is_unlisted t) 1 0
     → streams.limit ≡ s.streams.limit → StreamsStand l streams.entries (Got d ∷ items) → StandsFor s l items
-    → StandsFor (record s { streams = streams; totals = headed s.totals unlisted_now }) l
+    → StandsFor (record s { streams = streams; totals = with_datagram s.totals unlisted_now }) l
     (Got (with_samples d []) ∷ items)
 head-stands s l items d streams t unlisted_now answer count limit now st =
     let sources = sources-none l items d in
     let was = st.sources_stand in
+    let before : List Stream = listed_streams l items in
+    let after : List Stream = listed_streams l (Got d ∷ items) in
+    let names = names-stay l items d s.sources.entries was.placed in
     record {
       limits_are = st.limits_are;
       stream_limit = limit ∙ st.stream_limit;
       source_limit = st.source_limit;
       streams_stand = streams-same l streams.entries items d [] now;
       sources_stand = record {
-        keys_are = was.keys_are ∙ (λ j. listed same_source l.sources (sym sources j));
-        each = each-map source_in same_source (SourceStands l.sample_width (λ k. source_boots l k items))
-            (SourceStands l.sample_width (λ k. source_boots l k (Got (with_samples d []) ∷ items))) s.sources.entries
-            (λ k r kept. record {
-              kind = kept.kind;
-              width_is = kept.width_is;
-              stands = grown-stands r (source_boots l k items) (source_boots l k (Got (with_samples d []) ∷ items))
-                  (source-boots-none l items d k) kept.stands;
-            }) was.each;
+        placed = places-stay l items d s.sources.entries was.placed;
+        table = record {
+          keys_are = sym (keys-renamed (source_in before) (source_in after) s.sources.entries names) ∙ was.table.keys_are
+              ∙ (λ j. listed same_source l.sources (sym sources j));
+          each = each-renamed (source_in before) (source_in after)
+              (SourceStands l.sample_width (λ k. source_boots l k (Got (with_samples d []) ∷ items))) s.sources.entries
+              names (each-map (source_in before) same_source (SourceStands l.sample_width (λ k. source_boots l k items))
+              (SourceStands l.sample_width (λ k. source_boots l k (Got (with_samples d []) ∷ items))) s.sources.entries
+              (λ k r kept. record {
+                kind = kept.kind;
+                width_is = kept.width_is;
+                stands = grown-stands r (source_boots l k items) (source_boots l k (Got (with_samples d []) ∷ items))
+                    (source-boots-none l items d k) kept.stands;
+              }) was.table.each);
+        };
       };
-      totals_are = (λ j. headed (st.totals_are j)
+      totals_are = (λ j. with_datagram (st.totals_are j)
           ((count ∙ (λ i. (st.totals_are i).unlisted + cond (is_unlisted (answer i)) 1 0)) j)) ∙ totals-head l items d;
     }
 
@@ -85,26 +101,30 @@ not_first-stands s l items d not st =
       source_limit = st.source_limit;
       streams_stand = streams-same l s.streams.entries items (with_samples d []) d.samples st.streams_stand;
       sources_stand = record {
-        keys_are = was.keys_are ∙ (λ j. listed same_source l.sources (same j));
-        each = each-listed same_source source-same source_in
-            (SourceStands l.sample_width (λ k. source_boots l k (Got (with_samples d []) ∷ items)))
-            (SourceStands l.sample_width (λ k. source_boots l k (Got d ∷ items))) s.sources.entries
-            (λ k r there kept. record {
-              kind = kept.kind;
-              width_is = kept.width_is;
-              stands = keeps k r there kept.stands;
-            }) was.each;
+        placed = was.placed;
+        table = record {
+          keys_are = was.table.keys_are ∙ (λ j. listed same_source l.sources (same j));
+          each = each-listed same_source source-same (source_in (listed_streams l (Got d ∷ items)))
+              (SourceStands l.sample_width (λ k. source_boots l k (Got (with_samples d []) ∷ items)))
+              (SourceStands l.sample_width (λ k. source_boots l k (Got d ∷ items))) s.sources.entries
+              (λ k r there kept. record {
+                kind = kept.kind;
+                width_is = kept.width_is;
+                stands = keeps k r there kept.stands;
+              }) was.table.each;
+        };
       };
       totals_are = st.totals_are ∙ totals-not_first l items d not;
     }
   where
-    keeps : (k : Source) (r : SourceRecord) → among same_source (keys_in source_in s.sources.entries) k ≡ true
+    keeps : (k : Source) (r : SourceRecord)
+        → among same_source (keys_in (source_in (listed_streams l (Got d ∷ items))) s.sources.entries) k ≡ true
         → KeepsSource r (source_boots l k (Got (with_samples d []) ∷ items))
         → KeepsSource r (source_boots l k (Got d ∷ items))
     keeps k r there old =
         let P : List Source → Type 0 = λ keys. among same_source keys k ≡ true in
-        let stream = source-stream l (Got (with_samples d []) ∷ items) k (subst P st.sources_stand.keys_are there) in
-        let R : List (List Reading) → Type 0 = λ bs. KeepsSource r bs in
+        let stream = source-stream l (Got (with_samples d []) ∷ items) k (subst P st.sources_stand.table.keys_are there) in
+        let R : List (List SampleReading) → Type 0 = λ bs. KeepsSource r bs in
         subst R (source-boots-not_first l items d k stream not) old
 
 -- ---- one sample more
@@ -150,8 +170,8 @@ other-stands s l items d first st =
       streams_stand = streams-same l s.streams.entries items d (d.samples ++ Other ∷ []) st.streams_stand;
       sources_stand =
           let P : List Source → Type 0 = λ arrived.
-          SourcesStand l.sources l.sample_width s.sources.entries arrived (λ k. source_boots l k (Got d ∷ items)) in
-          let Q : (Source → List (List Reading)) → Type 0 = λ boots_of. SourcesStand l.sources l.sample_width
+          SourcesStand (listed_streams l (Got d ∷ items)) l.sources l.sample_width s.sources.entries arrived (λ k. source_boots l k (Got d ∷ items)) in
+          let Q : (Source → List (List SampleReading)) → Type 0 = λ boots_of. SourcesStand (listed_streams l (Got d ∷ items)) l.sources l.sample_width
           s.sources.entries (sources_of l (Got (with_sample d Other) ∷ items)) boots_of in
           subst Q boots (subst P (sym sources) st.sources_stand);
       totals_are = ap with_other st.totals_are ∙ (λ j. record {
@@ -164,11 +184,11 @@ other-stands s l items d first st =
       });
     }
 
-pub of-stands : (s : CollectorState) (l : Limits) (items : List Item) (d : Datagram) (id : SourceId) (r : Reading)
+pub of-stands : (s : CollectorState) (l : Limits) (items : List Item) (d : Datagram) (id : SourceId) (r : SampleReading)
     (sources : Table SourceKey SourceRecord) (found : Bool) (unlisted_now : ℕ) → taken_now l items (Got d) ≡ First
     → unlisted_now ≡ s.totals.unlisted_samples + (if found then 0 else 1)
     → sources.limit ≡ s.sources.limit
-    → SourcesStand l.sources l.sample_width sources.entries
+    → SourcesStand (listed_streams l (Got d ∷ items)) l.sources l.sample_width sources.entries
     (record { stream = stream_of d; id = id } ∷ sources_of l (Got d ∷ items))
     (after_reading (record { stream = stream_of d; id = id }) r (λ k. source_boots l k (Got d ∷ items)))
     → unlisted same_source l.sources (record { stream = stream_of d; id = id } ∷ sources_of l (Got d ∷ items))
@@ -197,9 +217,9 @@ of-stands s l items d id r table found unlisted_now first count_now limit now co
       source_limit = limit ∙ st.source_limit;
       streams_stand = streams-same l s.streams.entries items d (d.samples ++ x ∷ []) st.streams_stand;
       sources_stand =
-          let P : List Source → Type 0 = λ arrived. SourcesStand l.sources l.sample_width table.entries arrived
+          let P : List Source → Type 0 = λ arrived. SourcesStand (listed_streams l (Got d ∷ items)) l.sources l.sample_width table.entries arrived
           (after_reading source r (λ k. source_boots l k (Got d ∷ items))) in
-          let Q : (Source → List (List Reading)) → Type 0 = λ boots_of. SourcesStand l.sources l.sample_width
+          let Q : (Source → List (List SampleReading)) → Type 0 = λ boots_of. SourcesStand (listed_streams l (Got d ∷ items)) l.sources l.sample_width
           table.entries (sources_of l (Got (with_sample d x) ∷ items)) boots_of in
           subst Q boots (subst P (sym sources) now);
       totals_are = (λ j. with_listed (st.totals_are j)
@@ -224,13 +244,14 @@ pub opened-stands : (l : Limits) (streams : Table StreamKey StreamState) (source
 opened-stands l streams sources no_streams stream_room no_sources source_room =
     let P : List (StreamKey × StreamState) → Type 0 = λ entries. StreamsStand l entries [] in
     let Q : List (SourceKey × SourceRecord) → Type 0 = λ entries.
-    SourcesStand l.sources l.sample_width entries (sources_of l []) (λ k. source_boots l k []) in
+    SourcesStand (listed_streams l []) l.sources l.sample_width entries (sources_of l []) (λ k. source_boots l k []) in
     record {
       limits_are = refl;
       stream_limit = stream_room;
       source_limit = source_room;
       streams_stand = subst P (sym no_streams) (record { keys_are = none l.streams; each = tt });
-      sources_stand = subst Q (sym no_sources) (record { keys_are = none l.sources; each = tt });
+      sources_stand = subst Q (sym no_sources)
+          (record { placed = tt; table = record { keys_are = none l.sources; each = tt } });
       totals_are = refl;
     }
   where

@@ -32,7 +32,7 @@ flow-form : (form : Form) (f : FrameView) (h : FlowHead) → IsFlowIn form f h �
 unfolding sample_in
 flow-form Compact f h this =
     let A : SourceId → Sample = λ i. flow_sample i.class i.index
-    (record { mark = h.sequence; pool = h.pool; drops = h.drops; rate = h.rate }) in
+    (record { sequence = h.sequence; pool = h.pool; drops = h.drops; rate = h.rate }) in
     ap A (sym (source_of-word h.source this.fits.0)) ∙ ap sample_in (sym this.value)
 flow-form Expanded f h this = ap sample_in (sym this.value)
 

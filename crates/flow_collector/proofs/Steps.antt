@@ -3,15 +3,21 @@ use Rattle.std.proofs.Common.{◌≡◌, ℕ, suc, ◌+◌, Bool, true, false, c
 use Rattle.std.specs.List.{count_by, filter_map}
 use Rattle.std.proofs.lemmas.Bool.{ltb-true, ltb-false}
 use Rattle.std.proofs.lemmas.List.Folds.{list_any-append}
-use Rattle.count_spec.specs.Windows.{Answer}
-use Rattle.count_spec.specs.Windows as windows
-use Rattle.count_spec.specs.Boots.{BootPlace, Current, Next, Stale, boot_place, placed, with_stale, boots, stale_items}
+use Rattle.count_spec.specs.Windows.{answer, counted}
+use Rattle.count_spec.specs.declared.entered.Entered.{Entered as Answer}
+use Rattle.count_spec.specs.declared.entered.Entered.TheVariants as answers
+use Rattle.count_spec.specs.Boots.{boot_place, placed, with_stale, boots, stale_items}
+use Rattle.count_spec.specs.declared.boot_place.BootPlace.{BootPlace}
+use Rattle.count_spec.specs.declared.boot_place.BootPlace.TheVariants.{Current, Next, Stale}
 use Rattle.count_spec.proofs.Counts.{count_by-cons}
 use Rattle.wire_spec.specs.declared.fault.Fault.{Fault}
-use Rattle.books_spec.specs.Items.{Sample, Datagram, stamp_of, Item, Got, Malformed, Stream, stream_of, Limits}
+use Rattle.books_spec.specs.Items.{Sample, Datagram, stamp_of, Item, Got, Malformed, Stream, stream_of}
+use Rattle.books_spec.specs.declared.limits.Limits.{Limits}
 use Rattle.books_spec.specs.Listing.{same_stream, same_source, among, listed, unlisted}
-use Rattle.books_spec.specs.Books.{is_malformed, FirstFault, fault_after, first_fault, streams_of, listed_streams, own, stream_boots, Taken, First, Repeat, Late, Unlisted, Malformed_entry, Spent, taken_of, taken_at, taken_in, taken_now, entered_in, Entered, source_of, is_other, entered, sources_of, listed_sources, source_boots, Totals, totals}
-use Rattle.books_spec.specs.Books as books
+use Rattle.books_spec.specs.Books.{current_marks, is_malformed, fault_after, first_fault, streams_of, listed_streams, own, stream_boots, taken_of, taken_at, taken_in, taken_now, Entered, source_of, is_other, totals}
+use Rattle.books_spec.specs.declared.taken.Taken.TheVariants.{Unlisted}
+use Rattle.books_spec.specs.declared.totals.Totals.{Totals}
+use Rattle.books_spec.specs.declared.totals.FirstFault.{FirstFault}
 use Rattle.books_spec.proofs.Listings.{IsSame, listed-keeps, listed-new, listed-full, unlisted-known, unlisted-room, unlisted-full, unlisted-new}
 use Rattle.books_spec.proofs.Keys.{stream-same}
 use Rattle.stream_books.specs.Streams.{StreamState, ShowsStream, StandsFor as KeepsStream}
@@ -29,7 +35,7 @@ use Rattle.flow_collector.proofs.Boots.{entered-none, sources-none, entered-not_
 shows-same : (slack : ℕ) (s : StreamState) (d : Datagram) (xs : List Sample) (ds : List Datagram)
     → KeepsStream slack s (d ∷ ds) → KeepsStream slack s (with_samples d xs ∷ ds)
 shows-same slack s d xs ds st =
-    let w : ℕ = s.ledger.width in
+    let w : ℕ = s.ledger.marks.width in
     let bs : List (List Datagram) = boots stamp_of slack w ds in
     let stale : List Datagram = stale_items stamp_of slack w ds in
     let P : BootPlace → Type 0 = λ p. ShowsStream s (placed p (with_samples d xs) bs) (with_stale p (with_samples d xs) stale) in
@@ -140,14 +146,14 @@ module _ {K : Type 0} (same : K → K → Bool) (laws : IsSame same) where
           more ∙ answered (sym now)
 
 answer-listed : (a : Answer) → is_unlisted (taken_of a) ≡ false
-answer-listed (windows.First place n) = refl
-answer-listed windows.Repeat = refl
-answer-listed windows.Late = refl
+answer-listed (answers.First place n) = refl
+answer-listed answers.Repeat = refl
+answer-listed answers.Late = refl
 
-place-listed : (w : ℕ) (p : BootPlace) (bs : List (List Datagram)) (mark : ℕ) → is_unlisted (taken_at w p bs mark) ≡ false
-place-listed w Current bs mark = answer-listed (windows.answer w (windows.counted w (books.current_marks bs)) mark)
-place-listed w Next bs mark = refl
-place-listed w Stale bs mark = refl
+pub place-listed : (w : ℕ) (p : BootPlace) (bs : List (List Datagram)) (sequence : ℕ) → is_unlisted (taken_at w p bs sequence) ≡ false
+place-listed w Current bs sequence = answer-listed (answer w (counted w (current_marks bs)) sequence)
+place-listed w Next bs sequence = refl
+place-listed w Stale bs sequence = refl
 
 -- Unlisted is answered exactly where the stream isn't listed
 unlisted-answer : (l : Limits) (items : List Item) (d : Datagram)
@@ -172,15 +178,15 @@ no-fault None n d = refl
 no-fault (Some x) n d = refl
 
 -- the counts after a fault
-abbrev pub faulty : Totals → Fault → Totals
-faulty t f = record t {
+abbrev pub with_fault : Totals → Fault → Totals
+with_fault t f = record t {
   entries = t.entries + 1;
   malformed = t.malformed + 1;
   first_fault = fault_after t.first_fault t.entries (Malformed f);
 }
 
 pub totals-malformed : (l : Limits) (items : List Item) (f : Fault)
-    → faulty (totals l items) f ≡ totals l (Malformed f ∷ items)
+    → with_fault (totals l items) f ≡ totals l (Malformed f ∷ items)
 totals-malformed l items f =
     let entries = one-more (length items) in
     let count = count_by-cons is_malformed (Malformed f) items in
@@ -189,11 +195,11 @@ totals-malformed l items f =
     λ j. T (entries j) (malformed j)
 
 -- the counts after a datagram none of whose samples is entered, and so many of streams that aren't listed
-abbrev pub headed : Totals → ℕ → Totals
-headed t unlisted_now = record t { entries = t.entries + 1; unlisted = unlisted_now }
+abbrev pub with_datagram : Totals → ℕ → Totals
+with_datagram t unlisted_now = record t { entries = t.entries + 1; unlisted = unlisted_now }
 
 pub totals-head : (l : Limits) (items : List Item) (d : Datagram)
-    → headed (totals l items) ((totals l items).unlisted + cond (is_unlisted (taken_now l items (Got d))) 1 0)
+    → with_datagram (totals l items) ((totals l items).unlisted + cond (is_unlisted (taken_now l items (Got d))) 1 0)
     ≡ totals l (Got (with_samples d []) ∷ items)
 totals-head l items d =
     let entries = one-more (length items) in

@@ -1,23 +1,28 @@
 -- A datagram is taken: its head, and then its samples where it is First.
-use Rattle.std.proofs.Common.{◌≡◌, ◌∙◌, ℕ, ◌<◌, Bool, true, false, cond, nat_le, List, [], ◌∷◌, length, refl, sym, ap, subst, true≢false, arith}
+use Rattle.std.proofs.Common.{◌≡◌, ◌∙◌, ℕ, ◌<◌, Bool, true, false, cond, nat_le, Option, Some, List, [], ◌∷◌, length, refl, sym, ap, subst, true≢false, arith}
+use Rattle.std.specs.Option.{IfSome}
 use Rattle.std.proofs.lemmas.Bool.{leb-true}
 use Rattle.data_format.specs.Trees.{frame_trees}
 use Rattle.datagram_views.specs.declared.head.DatagramHead.{DatagramHead}
 use Rattle.datagram_views.specs.Heads.{DatagramView, head_of}
 use Rattle.datagram_views.specs.Tables.{samples_read}
 use Rattle.wire_spec.specs.Heads.{Head}
-use Rattle.books_spec.specs.Items.{Datagram, Item, Got, stream_of, Limits}
-use Rattle.books_spec.specs.Books.{Taken, First, Repeat, Late, Unlisted, Malformed_entry, Spent, taken, taken_now, most_entries}
-use Rattle.books_spec.specs.Books as books
+use Rattle.books_spec.specs.Items.{Datagram, Item, Got, stream_of}
+use Rattle.books_spec.specs.declared.limits.Limits.{Limits}
+use Rattle.books_spec.specs.Books.{taken, taken_now, most_entries}
+use Rattle.books_spec.specs.declared.taken.Taken.{Taken}
+use Rattle.books_spec.specs.declared.taken.Taken.TheVariants.{First, Repeat, Late, Unlisted, Spent}
+use Rattle.books_spec.specs.declared.taken.Taken.TheVariants as takes
 use Rattle.stream_books.specs.Streams.{IsAt}
 use Rattle.collector_tables.specs.declared.keys.StreamKey.{StreamKey}
+use Rattle.collector_tables.specs.declared.streams.TakenAt.{TakenAt}
 use Rattle.collector_tables.specs.Keys.{stream_in}
 use Rattle.flow_collector.specs.Items.{samples_in}
 use Rattle.flow_collector.specs.Collectors.{CollectorState, StandsFor, AreFew}
-use Rattle.flow_collector.specs.Steps.{is_first, with_samples, Enters, Midway}
-use Rattle.flow_collector.proofs.Entering.{taken-same}
+use Rattle.flow_collector.specs.Steps.{is_first, with_samples, IsFound, Enters, Midway}
 use Rattle.flow_collector.proofs.Kept.{entries-are}
 use Rattle.flow_collector.proofs.Moves.{not_first-stands}
+use Rattle.flow_collector.proofs.SoFar.{enters-with}
 
 -- the answer where fewer than 2^48 entries were taken
 pub answered : (s : CollectorState) (l : Limits) (items : List Item) (item : Item) (t : Taken) → StandsFor s l items
@@ -31,48 +36,49 @@ answered s l items item t st few is = go (nat_le most_entries (length items)) re
         absurd (omega (arith, many, number, few))
     go false e = is
 
-first-is : (t : Taken) → is_first t ≡ true → t ≡ First
+pub first-is : (t : Taken) → is_first t ≡ true → t ≡ First
 first-is First e = refl
 first-is Repeat e = absurd (true≢false (sym e))
 first-is Late e = absurd (true≢false (sym e))
-first-is books.Stale e = absurd (true≢false (sym e))
+first-is takes.Stale e = absurd (true≢false (sym e))
 first-is Unlisted e = absurd (true≢false (sym e))
-first-is Malformed_entry e = absurd (true≢false (sym e))
+first-is takes.Malformed e = absurd (true≢false (sym e))
 first-is Spent e = absurd (true≢false (sym e))
 
 -- the datagram that this view is
-abbrev pub given : ℕ → DatagramView → Datagram
-given at d = record { arrival = at; head = d.head; samples = samples_in (frame_trees samples_read d.samples) }
+abbrev pub datagram_at : ℕ → DatagramView → Datagram
+datagram_at at d = record { arrival = at; head = d.head; samples = samples_in (frame_trees samples_read d.samples) }
 
 abbrev pub key_of : DatagramHead → StreamKey
 key_of h = record { agent = h.agent; sub_agent = h.sub_agent }
 
 pub key-stream : (at : ℕ) (d : DatagramView) (h : DatagramHead) → head_of h ≡ d.head
-    → stream_in (key_of h) ≡ stream_of (given at d)
+    → stream_in (key_of h) ≡ stream_of (datagram_at at d)
 key-stream at d h is = ap (λ (x : Head). record { agent = x.agent; sub_agent = x.sub_agent }) is
 
-pub is-at : (at : ℕ) (d : DatagramView) (h : DatagramHead) → head_of h ≡ d.head → IsAt (given at d) at h.uptime h.sequence
+pub is-at : (at : ℕ) (d : DatagramView) (h : DatagramHead) → head_of h ≡ d.head → IsAt (datagram_at at d) at h.uptime h.sequence
 is-at at d h is = (refl, ap (λ (x : Head). x.uptime) (sym is), ap (λ (x : Head). x.sequence) (sym is))
 
-pub enters : (l : Limits) (items : List Item) (at : ℕ) (d : DatagramView) (h : DatagramHead) (t : Taken)
-    → head_of h ≡ d.head → is_first t ≡ true → t ≡ taken_now l items (Got (given at d))
-    → Enters l items (key_of h) (given at d)
-enters l items at d h t is first answer = record { stream = key-stream at d h is; first = sym answer ∙ first-is t first }
+-- where it was found
+pub found-at : (l : Limits) (items : List Item) (d : Datagram) (o : Option TakenAt) (t : TakenAt) → o ≡ Some t
+    → IfSome o (λ x. IsFound l items x.place x.boot d) → IsFound l items t.place t.boot d
+found-at l items d o t is this =
+    let P : Option TakenAt → Type 0 = λ x. IfSome x (λ y. IsFound l items y.place y.boot d) in
+    let now : P (Some t) = subst P is this in
+    now
 
 -- the samples of a datagram that was taken may be entered
-pub may-enter : (now : CollectorState) (l : Limits) (items : List Item) (key : StreamKey) (d : Datagram)
-    → Enters l items key d → StandsFor now l (Got (with_samples d []) ∷ items) → AreFew items → length items < most_entries
-    → Midway now key 0
-may-enter now l items key d entering st few room =
+pub may-enter : (now : CollectorState) (l : Limits) (items : List Item) (place boot : ℕ) (d : Datagram)
+    → Enters l items place boot d → StandsFor now l (Got (with_samples d []) ∷ items) → AreFew items
+    → length items < most_entries → Midway now place boot 0
+may-enter now l items place boot d entering st few room =
     let back = sym st.limits_are in
-    let E : Limits → Type 0 = λ x. Enters x items key (with_samples d []) in
+    let E : Limits → Type 0 = λ x. Enters x items place boot (with_samples d []) in
     let S : Limits → Type 0 = λ x. StandsFor now x (Got (with_samples d []) ∷ items) in
-    let first : Enters l items key (with_samples d []) =
-    record { stream = entering.stream; first = taken-same l items d [] ∙ entering.first } in
     record {
       items = items;
       datagram = with_samples d [];
-      enters = subst E back first;
+      enters = subst E back (enters-with l items place boot d [] entering);
       stands = subst S back st;
       few_samples = few;
       few_entries = room;

@@ -1,7 +1,9 @@
 -- A collector, and the items for which it stands, the LATEST FIRST.
 use Rattle.std.specs.Prelude.{◌≡◌, ◌≤◌, List, [], ◌∷◌, length}
-use Rattle.books_spec.specs.Items.{Item, Got, Malformed, Limits}
-use Rattle.books_spec.specs.Books.{sources_of, source_boots, Totals, totals, most_entries}
+use Rattle.books_spec.specs.declared.limits.Limits.{Limits}
+use Rattle.books_spec.specs.declared.totals.Totals.{Totals}
+use Rattle.books_spec.specs.Items.{Item, Got, Malformed}
+use Rattle.books_spec.specs.Books.{listed_streams, sources_of, source_boots, totals, most_entries}
 use Rattle.stream_books.specs.Streams.{StreamState}
 use Rattle.stream_books.specs.declared.source.SourceRecord.{SourceRecord}
 use Rattle.collector_tables.specs.declared.keys.StreamKey.{StreamKey}
@@ -9,8 +11,6 @@ use Rattle.collector_tables.specs.declared.keys.SourceKey.{SourceKey}
 use Rattle.collector_tables.specs.Tables.{Table}
 use Rattle.collector_tables.specs.Listed.{StreamsStand}
 use Rattle.collector_tables.specs.Sources.{SourcesStand}
-use Rattle.collector_views.specs.Limits.{limits_in}
-use Rattle.collector_views.specs.Views.{totals_shown}
 use Rattle.flow_collector.specs.declared.collector.Collector.TheInside.{Inside}
 
 -- what contracts see of a collector: what it may hold, its tables, and its counts
@@ -22,10 +22,10 @@ pub record CollectorState : Type 0 where
 
 abbrev pub collector_state : Inside → CollectorState
 collector_state c = record {
-  limits = limits_in c.limits;
+  limits = c.limits;
   streams = c.streams;
   sources = c.sources;
-  totals = totals_shown c.totals;
+  totals = c.totals;
 }
 
 -- under these limits it stands for these items
@@ -34,8 +34,8 @@ pub record StandsFor (s : CollectorState) (l : Limits) (items : List Item) : Typ
   pub stream_limit : s.streams.limit ≡ l.streams
   pub source_limit : s.sources.limit ≡ l.sources
   pub streams_stand : StreamsStand l s.streams.entries items
-  pub sources_stand :
-      SourcesStand l.sources l.sample_width s.sources.entries (sources_of l items) (λ k. source_boots l k items)
+  pub sources_stand : SourcesStand (listed_streams l items) l.sources l.sample_width s.sources.entries
+      (sources_of l items) (λ k. source_boots l k items)
   pub totals_are : s.totals ≡ totals l items
 
 -- a datagram has at most 8,191 samples

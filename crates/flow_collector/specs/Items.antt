@@ -44,7 +44,7 @@ compact_source members = source_of (number_in 1 members)
 -- the members are sequence number, source, rate, pool and drops, and more
 abbrev pub compact_flow : Trees → Sample
 compact_flow members = flow_sample (compact_source members).class (compact_source members).index (record {
-  mark = number_in 0 members;
+  sequence = number_in 0 members;
   pool = number_in 3 members;
   drops = number_in 4 members;
   rate = number_in 2 members;
@@ -53,7 +53,7 @@ compact_flow members = flow_sample (compact_source members).class (compact_sourc
 -- the sources of the expanded form stand in two words
 abbrev pub expanded_flow : Trees → Sample
 expanded_flow members = flow_sample (number_in 1 members) (number_in 2 members) (record {
-  mark = number_in 0 members;
+  sequence = number_in 0 members;
   pool = number_in 4 members;
   drops = number_in 5 members;
   rate = number_in 3 members;

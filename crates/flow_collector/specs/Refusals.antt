@@ -1,7 +1,7 @@
 -- Why a collector isn't opened.
 use Rattle.std.specs.Prelude.{◌≡◌, Some, None}
-use Rattle.collector_views.specs.declared.limits.Limits.{Limits}
-use Rattle.collector_views.specs.Limits.{refused_limit}
+use Rattle.books_spec.specs.declared.limits.Limits.{Limits}
+use Rattle.books_spec.specs.Limits.{refused_limit}
 use Rattle.flow_collector.specs.declared.refusal.OpenRefusal.{OpenRefusal}
 use Rattle.flow_collector.specs.declared.refusal.OpenRefusal.TheVariants.{BadLimit, Memory}
 

@@ -1,4 +1,4 @@
-ghost use Rattle.std.specs.Prelude.{◌≡◌, ℕ, ◌+◌, ◌≤◌, ◌<◌, cond, true, List, [], ◌∷◌, length, slice_get, Some, IfOk, IfErr, IfSome};
+ghost use Rattle.std.specs.Prelude.{◌≡◌, ℕ, ◌+◌, ◌≤◌, ◌<◌, cond, List, [], ◌∷◌, length, slice_get, is_some, if◌then◌else◌, Some, IfOk, IfErr, IfSome};
 ghost use Rattle.std.specs.declared.result.Result.TheVariants.{Err};
 ghost use Rattle.std.specs.Option.{option_map};
 ghost use Rattle.data_format.specs.Trees.{frame_tree, frame_trees};
@@ -6,24 +6,23 @@ ghost use Rattle.data_format.specs.Views.{FrameView};
 ghost use Rattle.datagram_views.specs.SampleHeads.{IsHeadOf};
 ghost use Rattle.datagram_views.specs.Tables.{samples_read};
 ghost use Rattle.datagram_views.specs.Trees.{tree_of};
-ghost use Rattle.books_spec.specs.Items.{Datagram as Given, Item, Got, Malformed as Faulty, stream_of, Limits as Room};
-ghost use Rattle.books_spec.specs.Listing.{same_stream, among};
-ghost use Rattle.books_spec.specs.Books.{books, fault_after, taken, taken_now, totals, stream_boots, listed_streams, listed_sources, most_entries};
+ghost use Rattle.books_spec.specs.declared.limits.Limits.{Limits};
+ghost use Rattle.books_spec.specs.Items.{Datagram as Given, Item, Got, Malformed as Faulty, stream_of};
+ghost use Rattle.books_spec.specs.Limits.{refused_limit};
+ghost use Rattle.books_spec.specs.Books.{books, fault_after, taken, taken_now, totals, listed_streams, listed_sources, most_entries};
 ghost use Rattle.stream_books.specs.Streams.{IsAt};
-ghost use Rattle.stream_books.specs.Taken.{taken_in_books};
 ghost use Rattle.collector_tables.specs.Keys.{stream_in};
-ghost use Rattle.collector_tables.specs.Listed.{StreamsStand};
-ghost use Rattle.collector_views.specs.Limits.{limits_in, refused_limit};
-ghost use Rattle.collector_views.specs.Views.{stream_shown, source_shown, fault_shown, totals_shown};
+ghost use Rattle.collector_tables.specs.Answers.{answer_in_books};
+ghost use Rattle.collector_views.specs.Views.{stream_shown, source_shown};
 ghost use Rattle.flow_collector.specs.Items.{datagram_in, sample_in, samples_in};
 ghost use Rattle.flow_collector.specs.Collectors.{StandsFor};
 ghost use Rattle.flow_collector.specs.Shown.{sample_shown};
-ghost use Rattle.flow_collector.specs.Steps.{is_first, is_unlisted, with_samples, with_sample, Enters, Midway, boot_number};
+ghost use Rattle.flow_collector.specs.Steps.{is_first, with_samples, with_sample, IsFound, Enters, Midway};
 ghost use Rattle.flow_collector.specs.Refusals.{IsRefusedBy};
 
 use crate::OpenRefusal;
 use crate::shown::{Shown, read_sample};
-use collector_tables::{SourceKey, SourceTable, StreamKey, StreamTable};
+use collector_tables::{EnteredAt, SourceKey, SourceTable, StreamKey, StreamTable, TakenAt};
 use collector_views::{FirstFault, Limits, SourceView, StreamView, Totals};
 use data_format::Fault;
 use datagram_views::{Datagram, SampleHead, Samples};
@@ -64,12 +63,12 @@ impl Model for Collector {
 }
 
 impl Collector {
-    /// Nothing was taken yet; there is room for all that the limits allow, and no later call takes memory.
+    /// Nothing was taken yet; there is room for all that the limits allow, and no later call needs more room.
     ///
     /// `BadLimit` comes exactly where a limit is out of its range, with the least number of such a limit; `Memory`
     /// only where there is none for the tables.
     pub fn open(alloc: Global, limits: Limits, seeds: Seeds) -> Result<Collector, OpenRefusal>
-        ensures stands { IfOk result (λ c. StandsFor c (limits_in limits) []) }
+        ensures stands { IfOk result (λ c. StandsFor c limits []) }
         ensures refused { IfErr result (λ e. IsRefusedBy limits e) }
         ensures bad_limit { (number : ℕ) → refused_limit limits ≡ Some number → result ≡ Err (OpenRefusal.BadLimit number) }
     {
@@ -79,10 +78,10 @@ impl Collector {
         Collector::with_room(alloc, limits, seeds)
     }
 
-    // The same where each limit is within its range.
+    // Opens a collector whose limits are each within their range.
     fn with_room(alloc: Global, limits: Limits, seeds: Seeds) -> Result<Collector, OpenRefusal>
         requires { refused_limit limits ≡ None }
-        ensures stands { IfOk result (λ c. StandsFor c (limits_in limits) []) }
+        ensures stands { IfOk result (λ c. StandsFor c limits []) }
         ensures refused { IfErr result (λ e. IsRefusedBy limits e) }
     {
         let Ok(streams) = StreamTable::open(alloc, limits.streams, seeds.streams) else {
@@ -103,13 +102,13 @@ impl Collector {
     /// where 2^48 entries were taken before, and then nothing changes; `Unlisted`, exactly where its stream is new and
     /// as many are listed as the limits allow; `Stale`, where it comes from an earlier boot of its sub-agent; `Late`,
     /// `Repeat` or `First` by the window over the numbers of its boot. The samples of a `First` datagram are entered,
-    /// in their order. Never `Malformed`. It takes no memory.
+    /// in their order. Never `Malformed`. All the room that it needs was taken at the opening.
     pub fn take(&mut self, at: u64, datagram: &Datagram<'_>) -> Taken
-        ensures stands { (l : Room) (items : List Item) → length items < most_entries → StandsFor self.old l items
+        ensures stands { (l : Limits) (items : List Item) → length items < most_entries → StandsFor self.old l items
             → StandsFor self.new l (Got (datagram_in at (tree_of datagram.now)) ∷ items) }
-        ensures answer { (l : Room) (items : List Item) → StandsFor self.old l items
-            → taken_in_books result ≡ taken l items (Got (datagram_in at (tree_of datagram.now))) }
-        ensures spent { (l : Room) (items : List Item) → most_entries ≤ length items → StandsFor self.old l items
+        ensures answer { (l : Limits) (items : List Item) → StandsFor self.old l items
+            → result ≡ taken l items (Got (datagram_in at (tree_of datagram.now))) }
+        ensures spent { (l : Limits) (items : List Item) → most_entries ≤ length items → StandsFor self.old l items
             → self.new ≡ self.old }
     {
         if self.totals.entries >= MOST_ENTRIES {
@@ -120,25 +119,36 @@ impl Collector {
             agent: head.agent,
             sub_agent: head.sub_agent,
         };
-        let taken = self.take_head(stream, at, head.uptime, head.sequence);
-        if is_entered(taken) {
-            self.enter_samples(stream, datagram.samples());
+        let Some(found) = self.take_head(stream, at, head.uptime, head.sequence) else {
+            return Taken::Unlisted;
+        };
+        if is_entered(found.taken) {
+            self.enter_samples(found.place, found.boot, datagram.samples());
         }
-        taken
+        found.taken
     }
 
-    // Takes a datagram as though it had no samples.
-    fn take_head(&mut self, stream: StreamKey, at: u64, uptime: u32, sequence: u32) -> Taken
+    // Takes a datagram as though it had no samples; `None` where its stream isn't listed.
+    fn take_head(
+        &mut self,
+        stream: StreamKey,
+        at: u64,
+        uptime: u32,
+        sequence: u32,
+    ) -> Option<TakenAt>
         requires { self.old.totals.entries < most_entries }
-        ensures stands { (l : Room) (items : List Item) (d : Given) → stream_in stream ≡ stream_of d
+        ensures stands { (l : Limits) (items : List Item) (d : Given) → stream_in stream ≡ stream_of d
             → IsAt d at uptime sequence → StandsFor self.old l items
             → StandsFor self.new l (Got (with_samples d []) ∷ items) }
-        ensures answer { (l : Room) (items : List Item) (d : Given) → stream_in stream ≡ stream_of d
+        ensures answer { (l : Limits) (items : List Item) (d : Given) → stream_in stream ≡ stream_of d
             → IsAt d at uptime sequence → StandsFor self.old l items
-            → taken_in_books result ≡ taken_now l items (Got d) }
+            → answer_in_books result ≡ taken_now l items (Got d) }
+        ensures found { (l : Limits) (items : List Item) (d : Given) → stream_in stream ≡ stream_of d
+            → IsAt d at uptime sequence → StandsFor self.old l items
+            → IfSome result (λ t. IsFound l items t.place t.boot d) }
     {
         self.totals.entries += 1;
-        let taken = self.streams.take(
+        let found = self.streams.take(
             stream,
             self.limits.datagram_width,
             self.limits.boot_slack,
@@ -146,78 +156,66 @@ impl Collector {
             uptime,
             sequence,
         );
-        self.totals.unlisted += unlisted_by(taken);
-        taken
+        self.totals.unlisted += none_count(found.is_some());
+        found
     }
 
-    // Enters the samples of a datagram that was taken as though it had none.
-    fn enter_samples(&mut self, stream: StreamKey, mut samples: Samples<'_>)
-        requires midway { Midway self.old stream 0 }
+    // Enters the samples of a datagram that was taken as though it had none, by the place and the boot of its stream.
+    fn enter_samples(&mut self, place: u32, boot: u64, mut samples: Samples<'_>)
+        requires midway { Midway self.old place boot 0 }
         requires few { length samples ≤ 8191 }
-        ensures stands { (l : Room) (items : List Item) (d : Given) → Enters l items stream d
+        ensures stands { (l : Limits) (items : List Item) (d : Given) → Enters l items place boot d
             → StandsFor self.old l (Got (with_samples d []) ∷ items)
             → StandsFor self.new l (Got (with_samples d (samples_in (frame_trees samples_read samples.entry))) ∷ items) }
     {
-        let boot = self.boots(&stream);
         while let Some(head) = samples.next_head() {
-            self.enter_sample(stream, boot, &head);
+            self.enter_sample(place, boot, &head);
         }
     }
 
-    // How many boots a stream had.
-    fn boots(&self, stream: &StreamKey) -> u64
-        ensures { (l : Room) (items : List Item) → StreamsStand l self.now.streams.entries items
-            → among same_stream (listed_streams l items) (stream_in stream.now) ≡ true
-            → result ≡ length (stream_boots l (stream_in stream.now) items) }
-    {
-        self.streams.boots(stream)
-    }
-
-    // Enters one sample more of the datagram, by its head; it is in this boot of its stream.
-    fn enter_sample(&mut self, stream: StreamKey, boot: u64, head: &SampleHead)
-        requires midway { Midway self.old stream 8190 }
-        requires boot { (l : Room) (items : List Item) (d : Given) → Enters l items stream d
-            → StandsFor self.old l (Got d ∷ items) → boot ≡ boot_number l items d }
-        ensures stands { (l : Room) (items : List Item) (d : Given) (f : FrameView) → Enters l items stream d
+    // Enters one sample more of the datagram, by its head, and answers where it was entered and what its ledger
+    // answered; `None` where its format isn't read or its source isn't listed.
+    fn enter_sample(&mut self, place: u32, boot: u64, head: &SampleHead) -> Option<EnteredAt>
+        requires midway { Midway self.old place boot 8190 }
+        ensures stands { (l : Limits) (items : List Item) (d : Given) (f : FrameView) → Enters l items place boot d
             → IsHeadOf f head.now → StandsFor self.old l (Got d ∷ items)
             → StandsFor self.new l (Got (with_sample d (sample_in (frame_tree samples_read f))) ∷ items) }
-        ensures streams { self.new.streams ≡ self.old.streams }
     {
         match read_sample(head) {
-            Some(shown) => self.enter(stream, boot, shown),
-            None => self.totals.other += 1,
+            Some(shown) => self.enter(place, boot, shown),
+            None => {
+                self.totals.other += 1;
+                None
+            }
         }
     }
 
-    // The same of a sample whose format is read.
-    fn enter(&mut self, stream: StreamKey, boot: u64, shown: Shown)
-        requires midway { Midway self.old stream 8190 }
-        requires boot { (l : Room) (items : List Item) (d : Given) → Enters l items stream d
-            → StandsFor self.old l (Got d ∷ items) → boot ≡ boot_number l items d }
-        ensures stands { (l : Room) (items : List Item) (d : Given) → Enters l items stream d
+    // Enters what a sample shows whose format is read.
+    fn enter(&mut self, place: u32, boot: u64, shown: Shown) -> Option<EnteredAt>
+        requires midway { Midway self.old place boot 8190 }
+        ensures stands { (l : Limits) (items : List Item) (d : Given) → Enters l items place boot d
             → StandsFor self.old l (Got d ∷ items)
             → StandsFor self.new l (Got (with_sample d (sample_shown (Some shown))) ∷ items) }
-        ensures streams { self.new.streams ≡ self.old.streams }
     {
         let key = SourceKey {
-            stream,
-            flow: shown.flow,
+            stream: place,
+            kind: shown.kind,
             source: shown.source,
         };
         let width = self.limits.sample_width;
-        if !self.sources.enter(key, width, boot, shown.reading) {
-            self.totals.unlisted_samples += 1;
-        }
+        let entered = self.sources.enter(key, width, boot, shown.reading);
+        self.totals.unlisted_samples += none_count(entered.is_some());
+        entered
     }
 
     /// Takes an entry that is no datagram, with its first fault, as the next one: `Malformed`, and it is counted; or
-    /// `Spent`, exactly where 2^48 entries were taken before, and then nothing changes. It takes no memory.
+    /// `Spent`, exactly where 2^48 entries were taken before, and then nothing changes. All the room that it needs was taken at the opening.
     pub fn reject(&mut self, fault: &Fault) -> Taken
-        ensures stands { (l : Room) (items : List Item) → length items < most_entries → StandsFor self.old l items
+        ensures stands { (l : Limits) (items : List Item) → length items < most_entries → StandsFor self.old l items
             → StandsFor self.new l (Faulty fault.now ∷ items) }
-        ensures answer { (l : Room) (items : List Item) → StandsFor self.old l items
-            → taken_in_books result ≡ taken l items (Faulty fault.now) }
-        ensures spent { (l : Room) (items : List Item) → most_entries ≤ length items → StandsFor self.old l items
+        ensures answer { (l : Limits) (items : List Item) → StandsFor self.old l items
+            → result ≡ taken l items (Faulty fault.now) }
+        ensures spent { (l : Limits) (items : List Item) → most_entries ≤ length items → StandsFor self.old l items
             → self.new ≡ self.old }
     {
         if self.totals.entries >= MOST_ENTRIES {
@@ -231,7 +229,7 @@ impl Collector {
 
     /// How many streams are listed.
     pub fn stream_count(&self) -> usize
-        ensures streams { (l : Room) (items : List Item) → StandsFor self.now l items
+        ensures streams { (l : Limits) (items : List Item) → StandsFor self.now l items
             → result ≡ length (listed_streams l items) }
         ensures limit { result ≤ self.now.limits.streams }
     {
@@ -240,23 +238,23 @@ impl Collector {
 
     /// What is shown of the stream at a place, from 0 on in order of first arrival; `None` exactly past the end.
     pub fn stream(&self, place: usize) -> Option<StreamView>
-        ensures view { (l : Room) (items : List Item) → StandsFor self.now l items
+        ensures view { (l : Limits) (items : List Item) → StandsFor self.now l items
             → option_map stream_shown result ≡ slice_get (books l items).streams place }
         ensures conserved { IfSome result (λ v. v.ledger.issued ≡ v.ledger.received + v.ledger.pending + v.ledger.lost) }
     {
-        let (key, record) = self.streams.get(place)?;
+        let (key, stream) = self.streams.get(place)?;
         Some(StreamView {
             agent: key.agent,
             sub_agent: key.sub_agent,
-            boots: record.boots(),
-            ledger: record.view(),
-            stale: record.stale(),
+            boots: stream.boots(),
+            ledger: stream.view(),
+            stale: stream.stale(),
         })
     }
 
     /// How many sources are listed.
     pub fn source_count(&self) -> usize
-        ensures sources { (l : Room) (items : List Item) → StandsFor self.now l items
+        ensures sources { (l : Limits) (items : List Item) → StandsFor self.now l items
             → result ≡ length (listed_sources l items) }
         ensures limit { result ≤ self.now.limits.sources }
     {
@@ -265,24 +263,23 @@ impl Collector {
 
     /// What is shown of the source at a place, from 0 on in order of first arrival; `None` exactly past the end.
     pub fn source(&self, place: usize) -> Option<SourceView>
-        ensures view { (l : Room) (items : List Item) → StandsFor self.now l items
+        ensures view { (l : Limits) (items : List Item) → StandsFor self.now l items
             → option_map source_shown result ≡ slice_get (books l items).sources place }
         ensures conserved { IfSome result (λ v. v.ledger.issued ≡ v.ledger.received + v.ledger.pending + v.ledger.lost) }
     {
-        let (key, record) = self.sources.get(place)?;
-        let stream = self.streams.place(&key.stream)?;
-        let boots = self.boots(&key.stream);
+        let (key, source) = self.sources.get(place)?;
+        let (_, stream) = self.streams.get(key.stream as usize)?;
         Some(SourceView {
-            stream: stream as u32 + 1,
-            flow: key.flow,
+            stream: key.stream + 1,
+            flow: key.kind.is_flow(),
             source: key.source,
-            ledger: record.view(boots),
+            ledger: source.view(stream.boots()),
         })
     }
 
     /// The counts of all entries, exact after each call.
     pub fn totals(&self) -> Totals
-        ensures { (l : Room) (items : List Item) → StandsFor self.now l items → totals_shown result ≡ totals l items }
+        ensures { (l : Limits) (items : List Item) → StandsFor self.now l items → result ≡ totals l items }
     {
         self.totals
     }
@@ -301,7 +298,7 @@ const NO_TOTALS: Totals = Totals {
 // The first fault, after an entry of this number that has this fault.
 fn first_of(first: Option<FirstFault>, entry: u64, fault: &Fault) -> Option<FirstFault>
     ensures { (before : ℕ) → entry ≡ before + 1
-        → fault_shown result ≡ fault_after (fault_shown first) before (Faulty fault.now) }
+        → result ≡ fault_after first before (Faulty fault.now) }
 {
     match first {
         Some(earlier) => Some(earlier),
@@ -312,19 +309,16 @@ fn first_of(first: Option<FirstFault>, entry: u64, fault: &Fault) -> Option<Firs
     }
 }
 
-// 1 where a datagram was answered `Unlisted`, and else 0.
-fn unlisted_by(taken: Taken) -> u64
-    ensures { result ≡ cond (is_unlisted (taken_in_books taken)) 1 0 }
+// 1 where nothing was found for an arrival, and else 0.
+fn none_count(is_found: bool) -> u64
+    ensures { result ≡ if is_found then 0 else 1 }
 {
-    match taken {
-        Taken::Unlisted => 1,
-        _ => 0,
-    }
+    if is_found { 0 } else { 1 }
 }
 
 // Whether the samples of a datagram that was answered so are entered.
 fn is_entered(taken: Taken) -> bool
-    ensures { result ≡ is_first (taken_in_books taken) }
+    ensures { result ≡ is_first taken }
 {
     match taken {
         Taken::First => true,

@@ -6,6 +6,7 @@ ghost use Rattle.datagram_views.specs.Tables.{samples_read};
 ghost use Rattle.flow_collector.specs.Items.{sample_in};
 ghost use Rattle.flow_collector.specs.Shown.{sample_shown, flow_of, counters_of};
 
+use collector_tables::SampleKind;
 use data_format::{CountersHead, FlowHead, SourceId};
 use datagram_views::SampleHead;
 use stream_books::SampleReading;
@@ -13,8 +14,8 @@ use stream_books::SampleReading;
 /// What a sample shows: its source within a stream, and its reading.
 #[derive(Debug, Clone, Copy)]
 pub struct Shown {
-    /// Whether it is a flow sample, else a counters sample.
-    pub flow: bool,
+    /// Whether a flow sample or a counters sample.
+    pub kind: SampleKind,
     /// What was sampled or counted.
     pub source: SourceId,
     pub reading: SampleReading,
@@ -36,7 +37,7 @@ fn flow_shown(head: &FlowHead) -> Shown
     ensures { sample_shown (Some result) ≡ flow_of head.now }
 {
     Shown {
-        flow: true,
+        kind: SampleKind::Flow,
         source: head.source,
         reading: SampleReading {
             sequence: head.sequence,
@@ -51,7 +52,7 @@ fn counters_shown(head: &CountersHead) -> Shown
     ensures { sample_shown (Some result) ≡ counters_of head.now }
 {
     Shown {
-        flow: false,
+        kind: SampleKind::Counters,
         source: head.source,
         reading: SampleReading {
             sequence: head.sequence,

@@ -2,7 +2,6 @@ use Rattle.std.proofs.Common.{rules, subst, refl, sym, Some, ◌≡◌, ◌≤�
 use Rattle.std.specs.Prelude.{slice_get}
 use Rattle.indexmap.proofs.CallerLemmas.{index_map_len-with_value_at}
 use Rattle.stream_books.specs.declared.source.SourceRecord.{SourceRecord}
-use Rattle.stream_books.specs.Readings.{reading_in}
 use Rattle.stream_books.specs.Sources.{boot_of, entered_count}
 use Rattle.collector_tables.specs.declared.keys.SourceKey.{SourceKey}
 use Rattle.collector_tables.specs.Tables.{Table}
@@ -10,8 +9,8 @@ use Rattle.collector_tables.specs.Enters.{Enters}
 use Rattle.collector_tables.proofs.Places.{same-value, entry-of}
 use Rattle.collector_tables.proofs.sources.SourceTable.enter_at.Goals as goal
 
-pub enter-requires : goal.enter-requires
-enter-requires c =
+pub enter-entered-requires : goal.enter-entered-requires
+enter-entered-requires c =
     let entry = entry-of c.self.inside.map.entries c.args.place c.index_mut-source.result.now
     c.index_mut-source.ensures.value in
     let R : Table SourceKey SourceRecord → Type 0 = λ t. (k : SourceKey) (was : SourceRecord)
@@ -27,14 +26,13 @@ returns-clause-now c = rw (← c.self.view_is) (λ k was at.
     let same : c.index_mut-source.result.now ≡ was = same-value c.self.inside.map.entries c.args.place k was
     c.index_mut-source.result.now at c.index_mut-source.ensures.value in
     let P : SourceRecord → Type 0 =
-    λ s. Enters c.args.boot (reading_in c.args.reading) s c.enter.new.self in (
-      c.enter.new.self,
+    λ s. Enters c.args.boot c.args.reading s c.enter-entered.new.self c.enter-entered.result in (
+      c.enter-entered.new.self,
       refl,
       subst P same (record {
-        stands = λ current closed number st. c.enter.ensures.stands (reading_in c.args.reading) current closed refl number st;
-        kind = c.enter.ensures.kind;
-        width = c.enter.ensures.width;
-        boot_is = c.enter.ensures.boot;
-        entered = c.enter.ensures.entered;
+        stands = c.enter-entered.ensures.stands;
+        answered = c.enter-entered.ensures.answer;
+        kind = c.enter-entered.ensures.kind;
+        width = c.enter-entered.ensures.width;
       }),
     ))

@@ -1,6 +1,5 @@
 use Rattle.std.proofs.Common.{◌≡◌, ◌∙◌, sym, ap, Option, Some, None, false, ℕ, refl}
 use Rattle.std.specs.Prelude.{slice_get}
-use Rattle.std.specs.List.{position_or_len}
 use Rattle.std.specs.Option.{is_some, IfSome, IfNone}
 use Rattle.std.proofs.lemmas.Map.Made.{is_some-lookup}
 use Rattle.books_spec.specs.Listing.{same_stream, among}
@@ -10,7 +9,7 @@ use Rattle.collector_tables.specs.declared.keys.StreamKey.{StreamKey}
 use Rattle.collector_tables.specs.contracts.keys.StreamKeyPartialEq.TheImpl as stream_eq
 use Rattle.collector_tables.specs.Keys.{stream_in}
 use Rattle.collector_tables.specs.Tables.{keys_in}
-use Rattle.collector_tables.proofs.KeyTests.{stream-eq, any-among, found-at, place-of}
+use Rattle.collector_tables.proofs.KeyTests.{stream-eq, any-among, found-at}
 use Rattle.collector_tables.proofs.streams.StreamTable.place.Goals as goal
 
 pub returns-clause-some : goal.returns-clause-some
@@ -34,12 +33,3 @@ returns-clause-none c = rw (← c.self.view_is) (by c.get_index_of.result refl)
         ∙ sym (is_some-lookup ((stream_eq.eq-value).it c.args.key.now) c.self.inside.map.entries)
         ∙ sym c.get_index_of.ensures.found ∙ ap is_some e
     by (Some i) e = tt
-
-pub returns-clause-at : goal.returns-clause-at
-returns-clause-at c = rw (← c.self.view_is) (by c.get_index_of.result refl)
-  where
-    by : (r : Option ℕ) → c.get_index_of.result ≡ r → IfSome r (λ p. p ≡ position_or_len
-        (same_stream (stream_in c.args.key.now)) (keys_in stream_in c.self.inside.map.entries))
-    by None e = tt
-    by (Some i) e = place-of (stream_eq.eq-value).it stream_in same_stream stream-eq c.args.key.now
-        c.self.inside.map.entries i (sym c.get_index_of.ensures.index ∙ e)

@@ -8,12 +8,12 @@ use Rattle.collector_tables.specs.Takes.{Takes}
 use Rattle.collector_tables.proofs.Places.{same-value, entry-of}
 use Rattle.collector_tables.proofs.streams.StreamTable.take_at.Goals as goal
 
-pub take-requires : goal.take-requires
-take-requires c =
+pub take-taken-requires : goal.take-taken-requires
+take-taken-requires c =
     let entry = entry-of c.self.inside.map.entries c.args.place c.index_mut-stream.result.now
     c.index_mut-stream.ensures.value in
     let R : Table StreamKey StreamState → Type 0 = λ t. (k : StreamKey) (was : StreamState)
-    → slice_get t.entries c.args.place ≡ Some (k, was) → was.ledger.entered + was.stale < 2 ^ 62 in
+    → slice_get t.entries c.args.place ≡ Some (k, was) → was.ledger.marks.entered + was.stale < 2 ^ 62 in
     record { few = subst R (sym c.self.view_is) c.requires.few entry.0 c.index_mut-stream.result.now entry.1 }
 
 pub invariant_of-self : goal.invariant_of-self
@@ -24,13 +24,13 @@ returns-clause-now c = rw (← c.self.view_is) (λ k was at.
     let same : c.index_mut-stream.result.now ≡ was = same-value c.self.inside.map.entries c.args.place k was
     c.index_mut-stream.result.now at c.index_mut-stream.ensures.value in
     let P : StreamState → Type 0 =
-    λ s. Takes c.args.slack c.args.arrival c.args.uptime c.args.sequence s c.take.new.self c.take.result in (
-      c.take.new.self,
+    λ s. Takes c.args.slack c.args.arrival c.args.uptime c.args.sequence s c.take-taken.new.self c.take-taken.result in (
+      c.take-taken.new.self,
       refl,
       subst P same (record {
-        stands = c.take.ensures.stands;
-        answered = c.take.ensures.answer;
-        width = c.take.ensures.width;
-        taken = c.take.ensures.taken;
+        stands = c.take-taken.ensures.stands;
+        answered = c.take-taken.ensures.answer;
+        width = c.take-taken.ensures.width;
       }),
+      c.boots.ensures.value,
     ))

@@ -19,7 +19,7 @@ pub invariant_of-self : goal.invariant_of-self
 invariant_of-self c =
     let s : CollectorState = collector_state c.self.inside in
     let v = c.self.invariant in
-    let M : CollectorState → Type 0 = λ t. Midway t c.args.stream 8190 in
+    let M : CollectorState → Type 0 = λ t. Midway t c.args.place c.args.boot 8190 in
     let mid = subst M (sym c.self.view_is) c.requires.midway in
     let longer = length-last mid.datagram.samples Other in
     let few = mid.few in
@@ -32,15 +32,20 @@ invariant_of-self c =
       few_entries = omega (arith, room);
     }
 
-pub returns-in-Some-clause-stands : goal.returns-in-Some-clause-stands
-returns-in-Some-clause-stands c = λ l items d f enters of_frame st.
-    let P : Sample → Type 0 = λ x. StandsFor c.enter.new.self l (Got (with_sample d x) ∷ items) in
-    subst P (c.in-Some.ensures f of_frame) (c.enter.ensures.stands l items d enters st)
+pub returns-in-Some : goal.returns-in-Some
+returns-in-Some c = record {
+  stands = λ l items d f enters of_frame st.
+      let P : Sample → Type 0 = λ x. StandsFor c.enter.new.self l (Got (with_sample d x) ∷ items) in
+      subst P (c.in-Some.ensures f of_frame) (c.enter.ensures.stands l items d enters st);
+}
 
-pub returns-in-None-clause-stands : goal.returns-in-None-clause-stands
-returns-in-None-clause-stands c = λ l items d f enters of_frame st.
-    let s : CollectorState = collector_state c.self.inside in
-    let S : CollectorState → Type 0 = λ t. StandsFor t l (Got d ∷ items) in
-    let now = other-stands s l items d enters.first (subst S (sym c.self.view_is) st) in
-    let P : Sample → Type 0 = λ x. StandsFor (record s { totals = with_other s.totals }) l (Got (with_sample d x) ∷ items) in
-    subst P (c.in-None.ensures f of_frame) now
+pub returns-in-None : goal.returns-in-None
+returns-in-None c = record {
+  stands = λ l items d f enters of_frame st.
+      let s : CollectorState = collector_state c.self.inside in
+      let S : CollectorState → Type 0 = λ t. StandsFor t l (Got d ∷ items) in
+      let now = other-stands s l items d enters.first (subst S (sym c.self.view_is) st) in
+      let P : Sample → Type 0 = λ x.
+      StandsFor (record s { totals = with_other s.totals }) l (Got (with_sample d x) ∷ items) in
+      subst P (c.in-None.ensures f of_frame) now;
+}

@@ -1,13 +1,11 @@
-use Rattle.std.proofs.Common.{◌≡◌, ◌∙◌, false, List, sym, subst, true≢false, arith}
-use Rattle.std.specs.List.{position_or_len}
-use Rattle.books_spec.specs.Items.{Stream}
-use Rattle.books_spec.specs.Listing.{same_stream, among}
+use Rattle.std.proofs.Common.{◌∙◌, ◌+◌, Some, length, sym, ap, subst, arith}
+use Rattle.books_spec.specs.Listing.{same_stream}
 use Rattle.collector_tables.specs.Keys.{stream_in}
-use Rattle.collector_tables.specs.Tables.{keys_in}
-use Rattle.collector_tables.specs.Listed.{StreamsStand}
+use Rattle.collector_tables.proofs.Tables.{keys-length}
 use Rattle.flow_collector.specs.Collectors.{CollectorState, collector_state, StandsFor}
 use Rattle.flow_collector.proofs.Counts.{source-kept}
-use Rattle.flow_collector.proofs.Shows.{source-shown, number-few}
+use Rattle.flow_collector.proofs.Found.{boots-at-place}
+use Rattle.flow_collector.proofs.Shows.{source-shown, placed-at, place-few}
 use Rattle.flow_collector.proofs.collector.Collector.source.Goals as goal
 
 pub returns-in_err-stream-clause-view : goal.returns-in_err-stream-clause-view
@@ -15,56 +13,48 @@ returns-in_err-stream-clause-view c = λ l items st.
     let s : CollectorState = collector_state c.self.inside in
     let P : CollectorState → Type 0 = λ t. StandsFor t l items in
     let stands = subst P (sym c.self.view_is) st in
-    let kept = source-kept l items s.sources.entries c.args.place c.in_ok-key.key.now c.in_ok-key.record.now
+    let less = placed-at l items s.sources.entries c.args.place c.in_ok-key.key.now c.in_ok-key.source.now
     c.in_ok-key.ensures.some stands.sources_stand in
-    let N : List Stream → Type 0 = λ keys. among same_stream keys (stream_in c.in_ok-key.key.now.stream) ≡ false in
-    absurd (true≢false (sym kept.2 ∙ subst N stands.streams_stand.keys_are c.in_err-stream.ensures.none))
-
-pub overflow_cast-result : goal.overflow_cast-result
-overflow_cast-result c =
-    let s : CollectorState = collector_state c.self.inside in
-    let v = c.self.invariant in
-    let kept = source-kept s.limits v.items s.sources.entries c.args.place c.in_ok-key.key.now c.in_ok-key.record.now
-    c.in_ok-key.ensures.some v.stands.sources_stand in
-    let less = number-few s.limits v.items s.streams.entries (stream_in c.in_ok-key.key.now.stream) v.stands.streams_stand
-    kept.2 in
-    let is : c.in_ok-stream.stream ≡ position_or_len (same_stream (stream_in c.in_ok-key.key.now.stream))
-    (keys_in stream_in s.streams.entries) = c.in_ok-stream.ensures.at in
-    let few = v.within.streams in
-    omega (arith, less, is, few)
+    let past = c.in_err-stream.ensures.none in
+    let same = sym (keys-length stream_in same_stream s.streams.entries) ∙ ap length stands.streams_stand.keys_are in
+    absurd (omega (arith, less, past, same))
 
 pub overflow_add-result : goal.overflow_add-result
 overflow_add-result c =
     let s : CollectorState = collector_state c.self.inside in
     let v = c.self.invariant in
-    let kept = source-kept s.limits v.items s.sources.entries c.args.place c.in_ok-key.key.now c.in_ok-key.record.now
+    let less = place-few s.limits v.items s.sources.entries c.args.place c.in_ok-key.key.now c.in_ok-key.source.now
     c.in_ok-key.ensures.some v.stands.sources_stand in
-    let less = number-few s.limits v.items s.streams.entries (stream_in c.in_ok-key.key.now.stream) v.stands.streams_stand
-    kept.2 in
-    let is : c.in_ok-stream.stream ≡ position_or_len (same_stream (stream_in c.in_ok-key.key.now.stream))
-    (keys_in stream_in s.streams.entries) = c.in_ok-stream.ensures.at in
     let few = v.within.streams in
-    omega (arith, less, is, few)
+    omega (arith, less, few)
 
 pub view-requires : goal.view-requires
 view-requires c =
     let s : CollectorState = collector_state c.self.inside in
     let v = c.self.invariant in
-    let kept = source-kept s.limits v.items s.sources.entries c.args.place c.in_ok-key.key.now c.in_ok-key.record.now
+    let kept = source-kept s.limits v.items s.sources.entries c.args.place c.in_ok-key.key.now c.in_ok-key.source.now
     c.in_ok-key.ensures.some v.stands.sources_stand in
     let boot = kept.0 in
-    let T : CollectorState → Type 0 = λ t. StreamsStand s.limits t.streams.entries v.items in
-    let is = c.boots-boots.ensures s.limits v.items (subst T c.self.view_is v.stands.streams_stand) kept.2 in
-    omega (arith, boot, is)
+    let is = c.boots.ensures.value in
+    let own = boots-at-place s.limits s.streams.entries v.items c.in_ok-key.key.now.stream _ _ c.in_ok-stream.ensures.some
+    v.stands.streams_stand in
+    omega (arith, boot, is, own)
 
 pub returns-clause-view : goal.returns-clause-view
 returns-clause-view c = λ l items st.
     let s : CollectorState = collector_state c.self.inside in
     let P : CollectorState → Type 0 = λ t. StandsFor t l items in
     let stands = subst P (sym c.self.view_is) st in
-    let kept = source-kept l items s.sources.entries c.args.place c.in_ok-key.key.now c.in_ok-key.record.now
-    c.in_ok-key.ensures.some stands.sources_stand in
-    source-shown l items s.streams.entries s.sources.entries c.args.place c.in_ok-key.key.now c.in_ok-key.record.now
-    c.in_ok-stream.stream c.boots-boots.result _ c.in_ok-key.ensures.some c.in_ok-stream.ensures.at
-    (c.boots-boots.ensures l items st.streams_stand kept.2) c.view.ensures.view stands.streams_stand
-    stands.sources_stand
+    (λ j. Some (record {
+      stream = c.in_ok-key.key.now.stream + 1;
+      id = record {
+        flow = c.is_flow.ensures j;
+        class = c.in_ok-key.key.now.source.class;
+        index = c.in_ok-key.key.now.source.index;
+      };
+      view = c.view.result;
+    })) ∙ source-shown l items s.sources.entries c.args.place c.in_ok-key.key.now c.in_ok-key.source.now c.boots.result _
+    c.in_ok-key.ensures.some
+    (c.boots.ensures.value ∙ boots-at-place l s.streams.entries items c.in_ok-key.key.now.stream _ _
+    c.in_ok-stream.ensures.some stands.streams_stand)
+    c.view.ensures.view stands.sources_stand
