@@ -9,12 +9,12 @@ use Rattle.data_format.specs.declared.source.SourceId.{SourceId}
 use Rattle.data_format.specs.Compact.{source_word, source_of, IsCompactSource}
 use Rattle.data_format.specs.Trees.{frame_tree, frame_trees}
 use Rattle.data_format.specs.Views.{FrameView}
-use Rattle.datagram_views.specs.Heads.{DatagramView}
-use Rattle.datagram_views.specs.SampleHeads.{IsFlowIn, AreCountersIn, IsHeadOf}
-use Rattle.datagram_views.specs.Tables.{samples_read}
-use Rattle.datagram_views.specs.Trees.{tree_of}
-use Rattle.datagram_views.specs.declared.sample_head.SampleHead.{SampleHead}
-use Rattle.datagram_views.specs.declared.sample_head.SampleHead.TheVariants as heads
+use Rattle.datagram_core.specs.Heads.{DatagramView}
+use Rattle.datagram_core.specs.SampleHeads.{IsFlowIn, AreCountersIn, IsHeadOf}
+use Rattle.datagram_core.specs.Tables.{samples_read}
+use Rattle.datagram_core.specs.Trees.{tree_of}
+use Rattle.datagram_core.specs.declared.sample_head.SampleHead.{SampleHead}
+use Rattle.datagram_core.specs.declared.sample_head.SampleHead.TheVariants as heads
 use Rattle.books_spec.specs.Items.{Sample, Other, Datagram, flow_sample, counters_sample}
 use Rattle.flow_collector.specs.Items.{sample_in, samples_in, address_in, datagram_in}
 use Rattle.flow_collector.specs.Shown.{flow_of, counters_of}

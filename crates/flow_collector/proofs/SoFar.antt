@@ -2,7 +2,7 @@
 use Rattle.std.proofs.Common.{◌≡◌, ◌∙◌, ℕ, suc, ◌+◌, ◌≤◌, List, [], ◌∷◌, ◌++◌, length, length-append, append_assoc, refl, sym, ap, subst, arith}
 use Rattle.data_format.specs.Views.{FrameView}
 use Rattle.data_format.specs.Trees.{frame_tree, frame_trees}
-use Rattle.datagram_views.specs.Tables.{samples_read}
+use Rattle.datagram_core.specs.Tables.{samples_read}
 use Rattle.books_spec.specs.Items.{Sample, Datagram, Item, Got}
 use Rattle.books_spec.specs.declared.limits.Limits.{Limits}
 use Rattle.flow_collector.specs.Items.{sample_in, samples_in}

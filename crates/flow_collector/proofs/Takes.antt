@@ -3,9 +3,9 @@ use Rattle.std.proofs.Common.{◌≡◌, ◌∙◌, ℕ, ◌<◌, Bool, true, fa
 use Rattle.std.specs.Option.{IfSome}
 use Rattle.std.proofs.lemmas.Bool.{leb-true}
 use Rattle.data_format.specs.Trees.{frame_trees}
-use Rattle.datagram_views.specs.declared.head.DatagramHead.{DatagramHead}
-use Rattle.datagram_views.specs.Heads.{DatagramView, head_of}
-use Rattle.datagram_views.specs.Tables.{samples_read}
+use Rattle.datagram_core.specs.declared.head.DatagramHead.{DatagramHead}
+use Rattle.datagram_core.specs.Heads.{DatagramView, head_of}
+use Rattle.datagram_core.specs.Tables.{samples_read}
 use Rattle.wire_spec.specs.Heads.{Head}
 use Rattle.books_spec.specs.Items.{Datagram, Item, Got, stream_of}
 use Rattle.books_spec.specs.declared.limits.Limits.{Limits}

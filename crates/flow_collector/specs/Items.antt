@@ -7,7 +7,7 @@ use Rattle.wire_spec.specs.Heads.{AgentAddress, unknown, ipv4, ipv6, Head}
 use Rattle.wire_spec.specs.Whole.{whole_reading}
 use Rattle.data_format.specs.declared.source.SourceId as ids
 use Rattle.data_format.specs.Compact.{source_of}
-use Rattle.datagram_views.specs.Tables.{datagram_read}
+use Rattle.datagram_core.specs.Tables.{datagram_read}
 use Rattle.books_spec.specs.Items.{Sample, Other, flow_sample, counters_sample, Datagram, Item, Got, Malformed}
 
 -- ---- members and values

@@ -2,9 +2,9 @@
 
 ghost use Rattle.std.specs.Prelude.{◌≡◌, ℕ};
 ghost use Rattle.data_format.specs.Trees.{frame_trees};
-ghost use Rattle.datagram_views.specs.Heads.{DatagramView};
-ghost use Rattle.datagram_views.specs.Tables.{samples_read};
-ghost use Rattle.datagram_views.specs.Trees.{tree_of};
+ghost use Rattle.datagram_core.specs.Heads.{DatagramView};
+ghost use Rattle.datagram_core.specs.Tables.{samples_read};
+ghost use Rattle.datagram_core.specs.Trees.{tree_of};
 ghost use Rattle.flow_collector.specs.Items.{datagram_in, samples_in};
 
 /// The datagram of a value that was read has its arrival, its head, and its samples in their order.

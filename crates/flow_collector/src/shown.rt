@@ -1,14 +1,14 @@
 ghost use Rattle.std.specs.Prelude.{◌≡◌, Some};
 ghost use Rattle.data_format.specs.Views.{FrameView};
 ghost use Rattle.data_format.specs.Trees.{frame_tree};
-ghost use Rattle.datagram_views.specs.SampleHeads.{IsHeadOf};
-ghost use Rattle.datagram_views.specs.Tables.{samples_read};
+ghost use Rattle.datagram_core.specs.SampleHeads.{IsHeadOf};
+ghost use Rattle.datagram_core.specs.Tables.{samples_read};
 ghost use Rattle.flow_collector.specs.Items.{sample_in};
 ghost use Rattle.flow_collector.specs.Shown.{sample_shown, flow_of, counters_of};
 
 use collector_tables::SampleKind;
 use data_format::{CountersHead, FlowHead, SourceId};
-use datagram_views::SampleHead;
+use datagram_core::SampleHead;
 use stream_books::SampleReading;
 
 /// What a sample shows: its source within a stream, and its reading.

@@ -13,7 +13,7 @@ use Rattle.wire_spec.specs.Whole.{FailsWhole, SpellsWhole, whole_reading}
 use Rattle.wire_spec.proofs.ByteLists.{rest_bytes, take_bytes}
 use Rattle.wire_spec.proofs.OneReading.{whole_good, whole_refused, whole_taken}
 use Rattle.wire_spec.proofs.Spellings.{lawful_spelled, spelled_freely, spelled_lawful, spelled_length}
-use Rattle.datagram_views.specs.Tables.{datagram_read}
+use Rattle.datagram_core.specs.Tables.{datagram_read}
 use Rattle.sflow_tool.specs.Canons.{canon_text, canonical, canonical_entries, canonical_entry, spelled_anew}
 use Rattle.sflow_tool.specs.Checks.{faulty_count, is_fault, is_faulty}
 

@@ -7,7 +7,7 @@ use Rattle.wire_spec.specs.Captures.{Entry}
 use Rattle.wire_spec.specs.Shapes.{Tree}
 use Rattle.wire_spec.specs.Whole.{FailsWhole, SpellsWhole, whole_reading}
 use Rattle.wire_spec.proofs.OneReading.{whole_bad, whole_refused, whole_taken}
-use Rattle.datagram_views.specs.Tables.{datagram_read}
+use Rattle.datagram_core.specs.Tables.{datagram_read}
 use Rattle.sflow_tool.specs.Checks.{check_line, is_fault, is_faulty, reading_line}
 use Rattle.sflow_tool.specs.Faults.{fault_line}
 

@@ -6,7 +6,7 @@ use Rattle.wire_spec.specs.Captures.{Entry, capture_bytes, capture_header, entry
 use Rattle.wire_spec.specs.Shapes.{Tree}
 use Rattle.wire_spec.specs.Spelling.{spell}
 use Rattle.wire_spec.specs.Whole.{whole_reading}
-use Rattle.datagram_views.specs.Tables.{datagram_read}
+use Rattle.datagram_core.specs.Tables.{datagram_read}
 use Rattle.sflow_tool.specs.Acts.{Act}
 use Rattle.sflow_tool.specs.Tasks.{Task}
 

@@ -7,7 +7,7 @@ use Rattle.wire_spec.specs.declared.pad.Pad.{Pad}
 use Rattle.wire_spec.specs.Captures.{Entry}
 use Rattle.wire_spec.specs.Shapes.{Tree}
 use Rattle.wire_spec.specs.Whole.{whole_reading}
-use Rattle.datagram_views.specs.Tables.{datagram_read}
+use Rattle.datagram_core.specs.Tables.{datagram_read}
 use Rattle.sflow_tool.specs.Acts.{Act}
 use Rattle.sflow_tool.specs.Faults.{fault_line}
 use Rattle.sflow_tool.specs.Lines.{lines_of}

@@ -10,7 +10,7 @@ use crate::Status;
 use crate::capture::visit_capture;
 use crate::faults::put_fault;
 use crate::walk::{Counts, EntryVisitor};
-use datagram_views::Datagram;
+use datagram_core::Datagram;
 use sflow_io::{Failed, Sink, Source};
 use std::alloc::Global;
 use text_lines::{Page, Piece};

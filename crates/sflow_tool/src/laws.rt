@@ -8,7 +8,7 @@ ghost use Rattle.wire_spec.specs.Captures.{Capture, Entry};
 ghost use Rattle.wire_spec.specs.Shapes.{Tree};
 ghost use Rattle.wire_spec.specs.Spelling.{spell};
 ghost use Rattle.wire_spec.specs.Whole.{FailsWhole, SpellsWhole};
-ghost use Rattle.datagram_views.specs.Tables.{datagram_read};
+ghost use Rattle.datagram_core.specs.Tables.{datagram_read};
 ghost use Rattle.sflow_tool.specs.Canons.{canon_text, canonical, canonical_entries, canonical_entry};
 ghost use Rattle.sflow_tool.specs.Checks.{check_line, faulty_count, is_faulty};
 ghost use Rattle.sflow_tool.specs.Faults.{fault_line};

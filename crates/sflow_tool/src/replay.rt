@@ -13,7 +13,7 @@ use crate::Status;
 use crate::capture::visit_capture;
 use crate::report::put_report;
 use crate::walk::{Counts, EntryVisitor};
-use datagram_views::Datagram;
+use datagram_core::Datagram;
 use flow_collector::{Collector, Limits, OpenRefusal, Seeds};
 use sflow_io::{Failed, Sink, Source};
 use std::alloc::Global;

@@ -6,12 +6,12 @@ use Rattle.rec_extended.specs.RouteContents as routes
 use Rattle.rec_headers.specs.Contents as headers
 use Rattle.wire_spec.specs.Shapes.{empty}
 use Rattle.data_format.specs.Views.{FrameView}
-use Rattle.datagram_views.specs.Records.{IsRecordOf, record_tree}
-use Rattle.datagram_views.specs.Tables.{flow_records_read, counter_records_read}
-use Rattle.datagram_views.specs.declared.records.Record.{Record}
-use Rattle.datagram_views.specs.declared.records.Record.TheVariants as records
-use Rattle.datagram_views.specs.declared.records.RecordKind.{RecordKind}
-use Rattle.datagram_views.specs.declared.records.RecordKind.TheVariants.{Flow, Counters, Unknown}
+use Rattle.datagram_core.specs.Records.{IsRecordOf, record_tree}
+use Rattle.datagram_core.specs.Tables.{flow_records_read, counter_records_read}
+use Rattle.datagram_core.specs.declared.records.Record.{Record}
+use Rattle.datagram_core.specs.declared.records.Record.TheVariants as records
+use Rattle.datagram_core.specs.declared.records.RecordKind.{RecordKind}
+use Rattle.datagram_core.specs.declared.records.RecordKind.TheVariants.{Flow, Counters, Unknown}
 use Rattle.show_lines.specs.CounterLines.{interface_front, dot3_front, vlan_front}
 use Rattle.show_lines.specs.Fields.{members_of}
 use Rattle.show_lines.specs.FlowLines.{header_front, ethernet_front, ipv4_front, ipv6_front, switch_front, router_front, gateway_front}

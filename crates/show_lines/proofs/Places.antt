@@ -15,15 +15,15 @@ use Rattle.data_format.specs.Compact.{source_word, source_of, IsCompactSource, p
 use Rattle.data_format.specs.Samples.{SampleView, flow_trees, IsFlowHead, flow_tree, counters_trees, IsCountersHead, counters_tree}
 use Rattle.data_format.specs.Trees.{frame_tree, trees_of, frame_trees}
 use Rattle.data_format.specs.Views.{IsFormat, FrameView, format_word}
-use Rattle.datagram_views.specs.Heads.{DatagramView}
-use Rattle.datagram_views.specs.Records.{RecordsView, IsRecordOf, records_of, record_tree, table_of}
-use Rattle.datagram_views.specs.Samples.{IsItself, IsSampleOf, sample_tree}
-use Rattle.datagram_views.specs.Tables.{flow_records_read, counter_records_read, samples_read}
-use Rattle.datagram_views.specs.Trees.{tree_of}
-use Rattle.datagram_views.specs.declared.records.Record.{Record}
-use Rattle.datagram_views.specs.declared.records.RecordKind.{RecordKind}
-use Rattle.datagram_views.specs.declared.sample.Sample.{Sample}
-use Rattle.datagram_views.specs.declared.sample.Sample.TheVariants as samples
+use Rattle.datagram_core.specs.Heads.{DatagramView}
+use Rattle.datagram_core.specs.Records.{RecordsView, IsRecordOf, records_of, record_tree, table_of}
+use Rattle.datagram_core.specs.Samples.{IsItself, IsSampleOf, sample_tree}
+use Rattle.datagram_core.specs.Tables.{flow_records_read, counter_records_read, samples_read}
+use Rattle.datagram_core.specs.Trees.{tree_of}
+use Rattle.datagram_core.specs.declared.records.Record.{Record}
+use Rattle.datagram_core.specs.declared.records.RecordKind.{RecordKind}
+use Rattle.datagram_core.specs.declared.sample.Sample.{Sample}
+use Rattle.datagram_core.specs.declared.sample.Sample.TheVariants as samples
 use Rattle.show_lines.specs.Fields.{format_of, members_of, address_in, flow_head_in, counters_head_in, flow_records_in, counter_records_in}
 use Rattle.show_lines.specs.Lines.{datagram_line, flow_front, counters_front, frame_front}
 use Rattle.show_lines.specs.Joined.{texts_of}

@@ -6,7 +6,7 @@ pub mod Lines
 pub mod Shown
 pub mod Worked
 pub mod WorkedRecords
-pub use Rattle.datagram_views.specs.Tables
+pub use Rattle.datagram_core.specs.Tables
 pub use Rattle.sflow_io.specs.Seen
 pub use Rattle.text_lines.specs.Pages
 pub use Rattle.wire_spec.specs.Captures

@@ -1,12 +1,12 @@
 ghost use Rattle.std.specs.Prelude.{◌≡◌, ◌≤◌, length};
-ghost use Rattle.datagram_views.specs.Trees.{tree_of};
+ghost use Rattle.datagram_core.specs.Trees.{tree_of};
 ghost use Rattle.sflow_io.specs.Seen.{WritesAll};
 ghost use Rattle.text_lines.specs.Pages.{Prints};
 ghost use Rattle.show_lines.specs.Shown.{entry_text, outcome_of, outcome_text, datagram_text};
 
 use crate::lines::{put_entry_line, put_fault, put_head};
 use crate::sample::put_samples;
-use datagram_views::Datagram;
+use datagram_core::Datagram;
 use sflow_io::{Failed, Sink, WriteFault};
 use text_lines::Page;
 use wire_spec::Pad;

@@ -1,10 +1,10 @@
 // The lines, from plain values.
-ghost use Rattle.datagram_views.specs.Heads.{head_of};
+ghost use Rattle.datagram_core.specs.Heads.{head_of};
 ghost use Rattle.text_lines.specs.Pages.{Prints};
 ghost use Rattle.show_lines.specs.Lines.{entry_line, fault_line, datagram_line, flow_front, counters_front, frame_front, line_end};
 
 use data_format::{CountersHead, FlowHead, Format};
-use datagram_views::DatagramHead;
+use datagram_core::DatagramHead;
 use sflow_io::{Failed, Sink};
 use text_lines::{Page, Piece};
 use wire_spec::Fault;

@@ -2,8 +2,8 @@
 ghost use Rattle.std.specs.Prelude.{◌≡◌};
 ghost use Rattle.data_format.specs.Trees.{frame_tree, trees_of};
 ghost use Rattle.data_format.specs.Views.{FrameView};
-ghost use Rattle.datagram_views.specs.Records.{IsRecordOf, record_tree, table_of};
-ghost use Rattle.datagram_views.specs.declared.records.RecordKind.{RecordKind};
+ghost use Rattle.datagram_core.specs.Records.{IsRecordOf, record_tree, table_of};
+ghost use Rattle.datagram_core.specs.declared.records.RecordKind.{RecordKind};
 ghost use Rattle.text_lines.specs.Pages.{Prints};
 ghost use Rattle.show_lines.specs.Fields.{tail_in};
 ghost use Rattle.show_lines.specs.Joined.{texts_of};
@@ -13,7 +13,7 @@ use crate::counters::{put_dot3, put_interface, put_vlan};
 use crate::extended::{put_gateway, put_router, put_switch};
 use crate::headers::{put_ethernet, put_header, put_ipv4, put_ipv6};
 use crate::lines::{put_frame, put_line_end};
-use datagram_views::{Record, Records};
+use datagram_core::{Record, Records};
 use sflow_io::{Failed, Sink};
 use text_lines::Page;
 

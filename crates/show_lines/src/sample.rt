@@ -2,8 +2,8 @@
 ghost use Rattle.std.specs.Prelude.{◌≡◌};
 ghost use Rattle.data_format.specs.Trees.{frame_trees};
 ghost use Rattle.data_format.specs.Views.{FrameView};
-ghost use Rattle.datagram_views.specs.Samples.{IsSampleOf, HasRecords, sample_tree};
-ghost use Rattle.datagram_views.specs.Tables.{samples_read};
+ghost use Rattle.datagram_core.specs.Samples.{IsSampleOf, HasRecords, sample_tree};
+ghost use Rattle.datagram_core.specs.Tables.{samples_read};
 ghost use Rattle.text_lines.specs.Pages.{Prints};
 ghost use Rattle.show_lines.specs.Fields.{tail_in};
 ghost use Rattle.show_lines.specs.Joined.{texts_of};
@@ -11,7 +11,7 @@ ghost use Rattle.show_lines.specs.Shown.{sample_text, sample_front};
 
 use crate::lines::{put_counters, put_flow, put_frame, put_line_end};
 use crate::record::put_records;
-use datagram_views::{Sample, Samples};
+use datagram_core::{Sample, Samples};
 use sflow_io::{Failed, Sink};
 use text_lines::Page;
 

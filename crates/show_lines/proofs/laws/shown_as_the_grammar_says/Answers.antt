@@ -1,7 +1,7 @@
 use Rattle.std.proofs.Common.{◌++◌, length, ap}
 use Rattle.wire_spec.specs.declared.pad.Pad.TheVariants.{Any}
 use Rattle.wire_spec.proofs.OneReading.{whole_taken, whole_refused}
-use Rattle.datagram_views.specs.Tables.{datagram_read}
+use Rattle.datagram_core.specs.Tables.{datagram_read}
 use Rattle.show_lines.specs.Lines.{entry_line}
 use Rattle.show_lines.specs.Shown.{entry_text, outcome_of, outcome_text}
 use Rattle.show_lines.proofs.Apart.{no_fault_line}

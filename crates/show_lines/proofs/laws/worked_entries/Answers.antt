@@ -1,6 +1,6 @@
 use Rattle.std.proofs.Common.{refl}
 use Rattle.std.specs.Fmt.{digits}
-use Rattle.datagram_views.specs.Tables.{flow_records_read, counter_records_read, samples_read}
+use Rattle.datagram_core.specs.Tables.{flow_records_read, counter_records_read, samples_read}
 use Rattle.show_lines.specs.Lines.{entry_line, fault_line, datagram_line, flow_front, counters_front, frame_front, line_end}
 use Rattle.show_lines.specs.Shown.{entry_text, outcome_of, datagram_text, sample_text, sample_front, sample_records, record_text}
 use Rattle.show_lines.proofs.laws.worked_entries.Goals as goal

@@ -1,6 +1,6 @@
 use Rattle.std.proofs.Common.{refl}
 use Rattle.std.specs.Fmt.{digits}
-use Rattle.datagram_views.specs.Tables.{flow_records_read, counter_records_read, samples_read}
+use Rattle.datagram_core.specs.Tables.{flow_records_read, counter_records_read, samples_read}
 use Rattle.show_lines.specs.CounterLines.{interface_front, dot3_front, vlan_front}
 use Rattle.show_lines.specs.FlowLines.{header_front, ethernet_front, ipv4_front, ipv6_front, switch_front, router_front, route_text, gateway_front}
 use Rattle.show_lines.specs.Joined.{list_text, segment_text, path_text}

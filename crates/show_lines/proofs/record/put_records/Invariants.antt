@@ -1,7 +1,7 @@
 -- The lines of the records so far were put, and no call has failed.
 use Rattle.std.proofs.Common.{◌≡◌, length}
 use Rattle.data_format.specs.Trees.{frame_tree}
-use Rattle.datagram_views.specs.Records.{table_of}
+use Rattle.datagram_core.specs.Records.{table_of}
 use Rattle.show_lines.specs.Shown.{record_text}
 use Rattle.show_lines.proofs.Series.{SoFar}
 use Rattle.show_lines.proofs.record.put_records.Given as goal

@@ -1,7 +1,7 @@
 -- The lines of the samples so far were put, and no call has failed.
 use Rattle.std.proofs.Common.{length}
 use Rattle.data_format.specs.Trees.{frame_tree}
-use Rattle.datagram_views.specs.Tables.{samples_read}
+use Rattle.datagram_core.specs.Tables.{samples_read}
 use Rattle.show_lines.specs.Shown.{sample_text}
 use Rattle.show_lines.proofs.Series.{SoFar}
 use Rattle.show_lines.proofs.sample.put_samples.Given as goal

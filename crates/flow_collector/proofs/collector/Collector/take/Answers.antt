@@ -1,7 +1,7 @@
 use Rattle.std.proofs.Common.{◌≡◌, ◌∙◌, ◌<◌, List, ◌∷◌, length, refl, sym, ap, subst, arith}
 use Rattle.data_format.specs.Trees.{frame_trees}
 use Rattle.data_format.specs.Views.{FrameView}
-use Rattle.datagram_views.specs.Tables.{samples_read}
+use Rattle.datagram_core.specs.Tables.{samples_read}
 use Rattle.books_spec.specs.declared.taken.Taken.TheVariants.{Unlisted}
 use Rattle.books_spec.specs.Items.{Datagram, Got}
 use Rattle.books_spec.specs.Books.{taken, most_entries}
