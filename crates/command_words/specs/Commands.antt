@@ -9,7 +9,7 @@ use Rattle.command_words.specs.declared.arguments.CommandName.TheVariants as nam
 use Rattle.command_words.specs.declared.command.Command.{Command}
 use Rattle.command_words.specs.declared.command.Command.TheVariants.{Replay, Show, Check, Canon}
 use Rattle.command_words.specs.Rules.{Text, Rule}
-use Rattle.collector_views.specs.declared.limits.Limits.{Limits}
+use Rattle.books_spec.specs.declared.limits.Limits.{Limits}
 use Rattle.command_words.specs.Pieces.{Piece, AreLawful, count_of, spelling, text_of}
 use Rattle.command_words.specs.Limits.{limits_asked, texts_by}
 use Rattle.command_words.specs.Reading.{lawful_pieces}

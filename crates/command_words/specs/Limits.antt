@@ -1,7 +1,7 @@
 -- The limits of a collector, by the texts of their options.
 use Rattle.std.specs.Prelude.{ℕ, Option, Some, None, codes, option_map, option_and_then}
-use Rattle.collector_views.specs.declared.limits.Limits.{Limits}
-use Rattle.collector_views.specs.Limits.{refused_limit, usual_limits}
+use Rattle.books_spec.specs.declared.limits.Limits.{Limits}
+use Rattle.books_spec.specs.Limits.{refused_limit, usual_limits}
 use Rattle.command_words.specs.declared.limits.LimitTexts.{LimitTexts as Texts}
 use Rattle.command_words.specs.Rules.{Text}
 use Rattle.command_words.specs.Numbers.{number_in}

@@ -1,6 +1,6 @@
 // Worked examples: words and their readings.
 ghost use Rattle.std.specs.Prelude.{◌≡◌, [], ◌∷◌, None, Some, codes};
-ghost use Rattle.collector_views.specs.Limits.{usual_limits};
+ghost use Rattle.books_spec.specs.Limits.{usual_limits};
 ghost use Rattle.command_words.specs.Commands.{command_of};
 ghost use Rattle.command_words.specs.Examples.{example_rules};
 ghost use Rattle.command_words.specs.Pieces.{alone, apart, joined};

@@ -1,7 +1,7 @@
 // What holds of the reading of words. Each law is the contract of a function with nothing to do.
 ghost use Rattle.std.specs.Prelude.{◌≡◌, ◌↔◌, ◌<◌, ◌^◌, ℕ, List, Some, IsTrue, decimal};
-ghost use Rattle.collector_views.specs.declared.limits.Limits.{Limits};
-ghost use Rattle.collector_views.specs.Limits.{AreLawful as AreWithin};
+ghost use Rattle.books_spec.specs.declared.limits.Limits.{Limits};
+ghost use Rattle.books_spec.specs.Limits.{AreLawful as AreWithin};
 ghost use Rattle.command_words.specs.declared.arguments.CommandName.{CommandName};
 ghost use Rattle.command_words.specs.declared.command.Command.{Command};
 ghost use Rattle.command_words.specs.Rules.{Rule};

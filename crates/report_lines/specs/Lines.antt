@@ -4,7 +4,9 @@ use Rattle.std.specs.List.{concat}
 use Rattle.wire_spec.specs.Texts.{address_text}
 use Rattle.wire_spec.specs.declared.fault.Fault.{Fault}
 use Rattle.wire_spec.specs.FaultNames.{fault_name}
-use Rattle.books_spec.specs.Books.{StreamBooks, SourceBooks, FirstFault, Totals}
+use Rattle.books_spec.specs.Books.{StreamBooks, SourceBooks}
+use Rattle.books_spec.specs.declared.totals.FirstFault.{FirstFault}
+use Rattle.books_spec.specs.declared.totals.Totals.{Totals}
 
 -- the line of the stream with this number
 unfoldable pub stream_text : ℕ → StreamBooks → List ℕ
@@ -13,12 +15,12 @@ stream_text number s = concat (
     codes " agent " ∷ address_text s.stream.agent ∷
     codes " sub " ∷ decimal s.stream.sub_agent ∷
     codes " boots " ∷ decimal s.boots ∷
-    codes " issued " ∷ decimal s.view.figures.issued ∷
-    codes " received " ∷ decimal s.view.figures.received ∷
-    codes " pending " ∷ decimal s.view.figures.pending ∷
-    codes " lost " ∷ decimal s.view.figures.lost ∷
-    codes " repeated " ∷ decimal s.view.figures.repeated ∷
-    codes " late " ∷ decimal s.view.figures.late ∷
+    codes " issued " ∷ decimal s.view.issued ∷
+    codes " received " ∷ decimal s.view.received ∷
+    codes " pending " ∷ decimal s.view.pending ∷
+    codes " lost " ∷ decimal s.view.lost ∷
+    codes " repeated " ∷ decimal s.view.repeated ∷
+    codes " late " ∷ decimal s.view.late ∷
     codes " stale " ∷ decimal s.stale ∷
     codes "\n" ∷ [])
 
@@ -28,12 +30,12 @@ flow_text s = concat (
     codes "source " ∷ decimal s.stream ∷
     codes " flow " ∷ decimal s.id.class ∷
     codes ":" ∷ decimal s.id.index ∷
-    codes " issued " ∷ decimal s.view.figures.issued ∷
-    codes " received " ∷ decimal s.view.figures.received ∷
-    codes " pending " ∷ decimal s.view.figures.pending ∷
-    codes " lost " ∷ decimal s.view.figures.lost ∷
-    codes " repeated " ∷ decimal s.view.figures.repeated ∷
-    codes " late " ∷ decimal s.view.figures.late ∷
+    codes " issued " ∷ decimal s.view.issued ∷
+    codes " received " ∷ decimal s.view.received ∷
+    codes " pending " ∷ decimal s.view.pending ∷
+    codes " lost " ∷ decimal s.view.lost ∷
+    codes " repeated " ∷ decimal s.view.repeated ∷
+    codes " late " ∷ decimal s.view.late ∷
     codes " pool " ∷ decimal s.view.pool ∷
     codes " drops " ∷ decimal s.view.drops ∷
     codes " rate " ∷ decimal s.view.rate ∷
@@ -45,12 +47,12 @@ counters_text s = concat (
     codes "source " ∷ decimal s.stream ∷
     codes " counters " ∷ decimal s.id.class ∷
     codes ":" ∷ decimal s.id.index ∷
-    codes " issued " ∷ decimal s.view.figures.issued ∷
-    codes " received " ∷ decimal s.view.figures.received ∷
-    codes " pending " ∷ decimal s.view.figures.pending ∷
-    codes " lost " ∷ decimal s.view.figures.lost ∷
-    codes " repeated " ∷ decimal s.view.figures.repeated ∷
-    codes " late " ∷ decimal s.view.figures.late ∷
+    codes " issued " ∷ decimal s.view.issued ∷
+    codes " received " ∷ decimal s.view.received ∷
+    codes " pending " ∷ decimal s.view.pending ∷
+    codes " lost " ∷ decimal s.view.lost ∷
+    codes " repeated " ∷ decimal s.view.repeated ∷
+    codes " late " ∷ decimal s.view.late ∷
     codes "\n" ∷ [])
 
 abbrev pub kind_text : Bool → SourceBooks → List ℕ

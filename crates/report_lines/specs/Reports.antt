@@ -1,7 +1,8 @@
 -- The whole report: a line for each stream and then for each source, in order of first arrival, the line of the
 -- first fault, and the totals.
 use Rattle.std.specs.Prelude.{ℕ, ◌+◌, List, [], ◌∷◌, ◌++◌, flat_map}
-use Rattle.books_spec.specs.Books.{Books, StreamBooks, SourceBooks, Totals}
+use Rattle.books_spec.specs.Books.{Books, StreamBooks, SourceBooks}
+use Rattle.books_spec.specs.declared.totals.Totals.{Totals}
 use Rattle.report_lines.specs.Lines.{stream_text, source_text, first_fault_text, total_text}
 
 -- the lines of these streams, the first of which has this number

@@ -1,6 +1,5 @@
 // What the report ends with: the first fault, and the totals.
 ghost use Rattle.text_lines.specs.Pages.{Prints};
-ghost use Rattle.collector_views.specs.Views.{fault_shown, totals_shown};
 ghost use Rattle.report_lines.specs.Lines.{first_fault_text, fault_line, total_text};
 ghost use Rattle.report_lines.specs.Reports.{end_text};
 
@@ -13,7 +12,7 @@ use text_lines::{Page, Piece};
 /// `Failed` is the sink's own; then the sink has taken a prefix of what the page held and these lines.
 pub fn put_end<K: Sink>(page: &mut Page, sink: &mut K, totals: &Totals) -> Result<(), Failed>
     ensures { Prints (K.seen sink.old) (K.seen sink.new) page.old page.new result
-        (end_text (totals_shown totals.now)) }
+        (end_text totals.now) }
 {
     put_first_fault(page, sink, &totals.first_fault)?;
     put_total(page, sink, totals)
@@ -27,7 +26,7 @@ pub fn put_first_fault<K: Sink>(
     first: &Option<FirstFault>,
 ) -> Result<(), Failed>
     ensures { Prints (K.seen sink.old) (K.seen sink.new) page.old page.new result
-        (first_fault_text (fault_shown first.now)) }
+        (first_fault_text first.now) }
 {
     match first {
         None => Ok(()),
@@ -62,7 +61,7 @@ fn put_fault<K: Sink>(
 #[tactic(auto, unfolding(crate::specs::Lines::total_text))]
 pub fn put_total<K: Sink>(page: &mut Page, sink: &mut K, totals: &Totals) -> Result<(), Failed>
     ensures { Prints (K.seen sink.old) (K.seen sink.new) page.old page.new result
-        (total_text (totals_shown totals.now)) }
+        (total_text totals.now) }
 {
     let pieces = [
         Piece::Text("total entries "),

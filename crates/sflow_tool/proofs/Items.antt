@@ -3,7 +3,8 @@ use Rattle.std.proofs.Common.{◌≡◌, ℕ, ◌^◌, ◌<◌, List, [], ◌∷
 use Rattle.std.specs.Prelude.{reverse}
 use Rattle.std.proofs.lemmas.List.{length-map, length-reverse, map-append, reverse-append}
 use Rattle.wire_spec.specs.Captures.{Entry}
-use Rattle.books_spec.specs.Items.{Item, Limits as Room}
+use Rattle.books_spec.specs.Items.{Item}
+use Rattle.books_spec.specs.declared.limits.Limits.{Limits}
 use Rattle.books_spec.specs.Books.{most_entries}
 use Rattle.flow_collector.specs.Collectors.{CollectorState, StandsFor}
 use Rattle.sflow_tool.specs.Replays.{entry_item, items_in, replay_task}
@@ -18,7 +19,7 @@ length-items_in entries = length-reverse (map entry_item entries) ∙ length-map
 -- a collector that stood for the items of some entries has taken a further one
 pub one_taken : (collector collector' : CollectorState) (entries : List Entry) (e : Entry) → length entries < 2 ^ 48
     → StandsFor collector collector.limits (items_in entries)
-    → ((l : Room) (items : List Item) → length items < most_entries → StandsFor collector l items
+    → ((l : Limits) (items : List Item) → length items < most_entries → StandsFor collector l items
     → StandsFor collector' l (entry_item e ∷ items))
     → StandsFor collector' collector'.limits (items_in (entries ++ e ∷ []))
     × (replay_task collector'.limits ≡ replay_task collector.limits)
@@ -26,7 +27,7 @@ one_taken collector collector' entries e few stands takes =
     let fewer : length (items_in entries) < most_entries = omega (arith, few, length-items_in entries) in
     let taken = takes collector.limits (items_in entries) fewer stands in (
       subst
-          (λ (l : Room). StandsFor collector' l (items_in (entries ++ e ∷ [])))
+          (λ (l : Limits). StandsFor collector' l (items_in (entries ++ e ∷ [])))
           (sym taken.limits_are)
           (subst (StandsFor collector' collector.limits) (sym (items_in-push entries e)) taken),
       ap replay_task taken.limits_are,

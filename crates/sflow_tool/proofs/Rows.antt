@@ -3,9 +3,7 @@ use Rattle.std.proofs.Common.{◌≡◌, ℕ, ◌+◌, false, true, cond, nat_lt
 use Rattle.std.specs.List.{count_by}
 use Rattle.wire_spec.specs.declared.pad.Pad.{Pad}
 use Rattle.wire_spec.specs.Captures.{Entry}
-use Rattle.collector_views.specs.declared.limits.Limits.{Limits}
-use Rattle.collector_views.specs.Limits.{limits_in}
-use Rattle.books_spec.specs.Items.{Limits as Room}
+use Rattle.books_spec.specs.declared.limits.Limits.{Limits}
 use Rattle.sflow_tool.specs.Canons.{canon_act, canon_task}
 use Rattle.sflow_tool.specs.Checks.{check_act, check_task}
 use Rattle.sflow_tool.specs.Lines.{lines_of}
@@ -53,14 +51,14 @@ canon_does = record {
   waits = λ late. absurd cc;
 }
 
-pub replay_does : (limits : Limits) (l : Room) → l ≡ limits_in limits → Does (replay_task l) (replay_act limits)
+pub replay_does : (limits l : Limits) → l ≡ limits → Does (replay_task l) (replay_act limits)
 unfolding report_of
 replay_does limits l same =
-    let does : Does (replay_task (limits_in limits)) (replay_act limits) = record {
+    let does : Does (replay_task limits) (replay_act limits) = record {
       parts = no_lines 1;
       whole = λ entries. ap (λ text. text ++ report_of limits entries) (no_lines 1 entries);
       finds = none_found;
       may = λ entries found. absurd cc;
       waits = λ late. refl;
     } in
-    subst (λ (r : Room). Does (replay_task r) (replay_act limits)) (sym same) does
+    subst (λ (r : Limits). Does (replay_task r) (replay_act limits)) (sym same) does

@@ -1,10 +1,9 @@
 -- What `replay` writes: the report of the books of a capture's entries, each an item for the collector.
 use Rattle.std.specs.Prelude.{ℕ, false, true, List, [], map, reverse}
 use Rattle.wire_spec.specs.Captures.{Entry}
-use Rattle.books_spec.specs.Items.{Item, Limits as Room}
+use Rattle.books_spec.specs.Items.{Item}
 use Rattle.books_spec.specs.Books.{books}
-use Rattle.collector_views.specs.declared.limits.Limits.{Limits}
-use Rattle.collector_views.specs.Limits.{limits_in}
+use Rattle.books_spec.specs.declared.limits.Limits.{Limits}
 use Rattle.flow_collector.specs.Items.{item_in}
 use Rattle.report_lines.specs.Reports.{report_text}
 use Rattle.sflow_tool.specs.Acts.{Act}
@@ -20,7 +19,7 @@ items_in entries = reverse (map entry_item entries)
 
 -- the report of these entries under these limits
 unfoldable pub report_of : Limits → List Entry → List ℕ
-report_of limits entries = report_text (books (limits_in limits) (items_in entries))
+report_of limits entries = report_text (books limits (items_in entries))
 
 abbrev pub replay_act : Limits → Act
 replay_act limits = record {
@@ -33,7 +32,7 @@ replay_act limits = record {
 }
 
 -- under the limits of a collector
-abbrev pub replay_task : Room → Task
+abbrev pub replay_task : Limits → Task
 replay_task l = record {
   line = λ number e. [];
   marks = λ e. false;

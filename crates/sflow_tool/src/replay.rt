@@ -1,8 +1,9 @@
 // `replay`: the report of a capture.
 ghost use Rattle.std.specs.Prelude.{◌≡◌, ◌<◌, ◌∷◌, List, length};
-ghost use Rattle.books_spec.specs.Items.{Item, Limits as Room};
+ghost use Rattle.books_spec.specs.Items.{Item};
+ghost use Rattle.books_spec.specs.declared.limits.Limits.{Limits};
 ghost use Rattle.books_spec.specs.Books.{most_entries};
-ghost use Rattle.collector_views.specs.Limits.{AreLawful};
+ghost use Rattle.books_spec.specs.Limits.{AreLawful};
 ghost use Rattle.flow_collector.specs.Collectors.{StandsFor};
 ghost use Rattle.flow_collector.specs.Items.{item_in};
 ghost use Rattle.command_words.specs.declared.command.Command.TheVariants as commands;
@@ -82,7 +83,7 @@ pub(crate) fn replay<S: Source, K: Sink>(
 
 // Takes an entry, a datagram or none, whatever its padding is.
 fn take_entry(collector: &mut Collector, at: u64, bytes: &[u8])
-    ensures { (l : Room) (items : List Item) → length items < most_entries → StandsFor collector.old l items
+    ensures { (l : Limits) (items : List Item) → length items < most_entries → StandsFor collector.old l items
         → StandsFor collector.new l (item_in at bytes.now ∷ items) }
 {
     match Datagram::parse(bytes, Pad::Any) {

@@ -1,7 +1,8 @@
 // The report of what a collector took.
 ghost use Rattle.std.specs.Prelude.{◌≡◌, List};
 ghost use Rattle.text_lines.specs.Pages.{Prints};
-ghost use Rattle.books_spec.specs.Items.{Item, Limits as Room};
+ghost use Rattle.books_spec.specs.Items.{Item};
+ghost use Rattle.books_spec.specs.declared.limits.Limits.{Limits};
 ghost use Rattle.books_spec.specs.Books.{books};
 ghost use Rattle.flow_collector.specs.Collectors.{StandsFor};
 ghost use Rattle.report_lines.specs.Reports.{stream_texts, source_texts, report_text};
@@ -17,7 +18,7 @@ pub(crate) fn put_report<K: Sink>(
     sink: &mut K,
     collector: &Collector,
 ) -> Result<(), Failed>
-    ensures { (l : Room) (items : List Item) → StandsFor collector.now l items
+    ensures { (l : Limits) (items : List Item) → StandsFor collector.now l items
         → Prints (K.seen sink.old) (K.seen sink.new) page.old page.new result (report_text (books l items)) }
 {
     put_streams(page, sink, collector)?;
@@ -27,7 +28,7 @@ pub(crate) fn put_report<K: Sink>(
 
 // The line of each stream, in order of first arrival.
 fn put_streams<K: Sink>(page: &mut Page, sink: &mut K, collector: &Collector) -> Result<(), Failed>
-    ensures { (l : Room) (items : List Item) → StandsFor collector.now l items
+    ensures { (l : Limits) (items : List Item) → StandsFor collector.now l items
         → Prints (K.seen sink.old) (K.seen sink.new) page.old page.new result
         (stream_texts 1 (books l items).streams) }
 {
@@ -41,7 +42,7 @@ fn put_streams<K: Sink>(page: &mut Page, sink: &mut K, collector: &Collector) ->
 
 // The line of each source, in order of first arrival.
 fn put_sources<K: Sink>(page: &mut Page, sink: &mut K, collector: &Collector) -> Result<(), Failed>
-    ensures { (l : Room) (items : List Item) → StandsFor collector.now l items
+    ensures { (l : Limits) (items : List Item) → StandsFor collector.now l items
         → Prints (K.seen sink.old) (K.seen sink.new) page.old page.new result
         (source_texts (books l items).sources) }
 {

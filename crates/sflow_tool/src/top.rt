@@ -1,8 +1,8 @@
 ghost use Rattle.std.specs.Prelude.{◌≡◌, ◌⊎◌, ◌↔◌, ℕ, List, None, Some, map, string_bytes};
 ghost use Rattle.sflow_io.specs.Seen.{Rose};
 ghost use Rattle.wire_spec.specs.Bytes.{AreBytes};
-ghost use Rattle.collector_views.specs.Limits.{AreLawful};
-ghost use Rattle.collector_views.specs.declared.limits.Limits.{Limits};
+ghost use Rattle.books_spec.specs.Limits.{AreLawful};
+ghost use Rattle.books_spec.specs.declared.limits.Limits.{Limits};
 ghost use Rattle.command_words.specs.Commands.{command_of};
 ghost use Rattle.sflow_tool.specs.Outputs.{Decides};
 ghost use Rattle.sflow_tool.specs.Outside.{outside};

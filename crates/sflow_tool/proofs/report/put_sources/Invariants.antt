@@ -1,6 +1,7 @@
 -- The lines so far were put, and no call has failed.
 use Rattle.std.proofs.Common.{◌≡◌, List, take}
-use Rattle.books_spec.specs.Items.{Item, Limits as Room}
+use Rattle.books_spec.specs.Items.{Item}
+use Rattle.books_spec.specs.declared.limits.Limits.{Limits}
 use Rattle.books_spec.specs.Books.{books}
 use Rattle.flow_collector.specs.Collectors.{StandsFor}
 use Rattle.text_lines.specs.Pages.{Puts}
@@ -9,7 +10,7 @@ use Rattle.sflow_tool.proofs.report.put_sources.Given as goal
 
 abbrev pub invariant-loop-place : goal.invariant-loop-place
 invariant-loop-place g l = record {
-  put : (l' : Room) (items : List Item) → StandsFor l.collector l' items
+  put : (l' : Limits) (items : List Item) → StandsFor l.collector l' items
       → Puts (g.K.Sink.seen l.initial.sink) (g.K.Sink.seen l.sink) l.initial.page l.page
       (source_texts (take l.place (books l' items).sources));
 }
