@@ -52,3 +52,8 @@ format_in (Kept frame) = format_word frame.format
 abbrev pub body_in : Description → List ℕ
 body_in (Read kind k x) = record_bytes x
 body_in (Kept frame) = frame.body.now
+
+-- the bytes behind the fields, all of them where the format isn't read
+abbrev pub tail_in : Description → List ℕ
+tail_in (Read kind k x) = x.1
+tail_in (Kept frame) = frame.body.now

@@ -7,22 +7,10 @@ use Rattle.data_format.specs.Records.{Content}
 use Rattle.data_format.specs.Trees.{frame_tree}
 use Rattle.data_format.specs.Views.{IsFormat, FrameView, frame_view, format_word}
 use Rattle.rec_extended.specs.RouteContents as routes
-use Rattle.datagram_core.specs.Descriptions.{Description, Read, Kept, described}
+use Rattle.datagram_core.specs.Descriptions.{Description, Read, Kept, described, tail_in}
 use Rattle.datagram_core.specs.Tables.{flow_records_read, counter_records_read}
 use Rattle.datagram_core.specs.declared.records.Record.{Record}
-use Rattle.datagram_core.specs.declared.records.Record.TheVariants.{
-  RawHeader,
-  Ethernet,
-  Ipv4,
-  Ipv6,
-  Switch,
-  Router,
-  Gateway,
-  IfCounters,
-  EthernetCounters,
-  VlanCounters,
-  Other,
-}
+use Rattle.datagram_core.specs.declared.records.Record.TheVariants.{RawHeader, Gateway, Other}
 use Rattle.datagram_core.specs.declared.records.RecordKind.{RecordKind}
 use Rattle.datagram_core.specs.declared.records.RecordKind.TheVariants as kinds
 use Rattle.datagram_core.specs.declared.sample.Sample.{Sample}
@@ -69,16 +57,9 @@ record_tree r = tree_in (described r)
 -- record whose format isn't read has the whole body.
 abbrev pub HasSlices : List ℕ → Record → Type 0
 HasSlices body (RawHeader r) = IsRange body 16 r.header.now × EndsWith body r.tail.now
-HasSlices body (Ethernet r) = EndsWith body r.tail.now
-HasSlices body (Ipv4 r) = EndsWith body r.tail.now
-HasSlices body (Ipv6 r) = EndsWith body r.tail.now
-HasSlices body (Switch r) = EndsWith body r.tail.now
-HasSlices body (Router r) = EndsWith body r.tail.now
 HasSlices body (Gateway r) = EndsWith body r.tail.now × routes.HasLists body r
-HasSlices body (IfCounters r) = EndsWith body r.tail.now
-HasSlices body (EthernetCounters r) = EndsWith body r.tail.now
-HasSlices body (VlanCounters r) = EndsWith body r.tail.now
 HasSlices body (Other frame) = frame.body.now ≡ body
+HasSlices body r = EndsWith body (tail_in (described r))
 
 -- a record whose format isn't read is the frame itself; the format is that of a word, and the place behind the body
 -- is below 2^32

@@ -20,7 +20,7 @@ pub record IsFlowIn (form : Form) (f : FrameView) (h : FlowHead) : Type 0 where
   pub value : frame_tree samples_read f
       ≡ known (flow_format form) (flow_tree form flow_records_read (record { head = h; frames = frames; tail = tail })) tail
 
--- and the same of a counters sample
+-- the frame's value is a counters sample in this form with this head, with some records and some tail
 pub record AreCountersIn (form : Form) (f : FrameView) (h : CountersHead) : Type 0 where
   pub fits : IsCountersHead form h
   pub frames : List FrameView

@@ -12,22 +12,10 @@ use Rattle.data_format.specs.Views.{IsFormat}
 use Rattle.rec_extended.specs.RouteContents.{path_of, communities_of}
 use Rattle.as_paths.specs.WordLists.{word_trees}
 use Rattle.as_paths.specs.Paths.{segment_trees}
-use Rattle.datagram_core.specs.Descriptions.{Description, Read, Kept, described, format_in, body_in}
+use Rattle.datagram_core.specs.Descriptions.{Description, Read, Kept, described, format_in, body_in, tail_in}
 use Rattle.datagram_core.specs.Kinds.{flow_format, counters_format}
 use Rattle.datagram_core.specs.declared.records.Record.{Record}
-use Rattle.datagram_core.specs.declared.records.Record.TheVariants.{
-  RawHeader,
-  Ethernet,
-  Ipv4,
-  Ipv6,
-  Switch,
-  Router,
-  Gateway,
-  IfCounters,
-  EthernetCounters,
-  VlanCounters,
-  Other,
-}
+use Rattle.datagram_core.specs.declared.records.Record.TheVariants.{RawHeader, Gateway}
 use Rattle.datagram_core.specs.declared.records.RecordKind.{RecordKind}
 use Rattle.datagram_core.specs.declared.records.RecordKind.TheVariants as kinds
 
@@ -89,17 +77,9 @@ patch place piece x = take place x ++ piece ++ drop (place + length piece) x
 -- each of its slices has at most 65,535 bytes
 abbrev pub SlicesFit : Record → Type 0
 SlicesFit (RawHeader r) = (length r.header.now ≤ 65535) × (length r.tail.now ≤ 65535)
-SlicesFit (Ethernet r) = length r.tail.now ≤ 65535
-SlicesFit (Ipv4 r) = length r.tail.now ≤ 65535
-SlicesFit (Ipv6 r) = length r.tail.now ≤ 65535
-SlicesFit (Switch r) = length r.tail.now ≤ 65535
-SlicesFit (Router r) = length r.tail.now ≤ 65535
 SlicesFit (Gateway r) = (length (spell_all (segment_trees (path_of r))) ≤ 65535)
     × (length (spell_all (word_trees (communities_of r))) ≤ 65535) × (length r.tail.now ≤ 65535)
-SlicesFit (IfCounters r) = length r.tail.now ≤ 65535
-SlicesFit (EthernetCounters r) = length r.tail.now ≤ 65535
-SlicesFit (VlanCounters r) = length r.tail.now ≤ 65535
-SlicesFit (Other frame) = length frame.body.now ≤ 65535
+SlicesFit r = length (tail_in (described r)) ≤ 65535
 
 -- the format of a record that isn't read is that of a word
 abbrev pub FormatFitsIn : Description → Type 0

@@ -14,7 +14,6 @@ mod sample;
 mod sample_head;
 mod samples;
 mod writer;
-mod writer_appends;
 mod writer_parts;
 
 pub use datagram::Datagram;

@@ -2,11 +2,10 @@ ghost use Rattle.std.specs.Prelude.{◌≡◌, ◌+◌, ◌*◌, ◌%◌, ◌<�
 ghost use Rattle.std.proofs.Props.{props};
 
 use crate::record_writing::{body_length, frame_length};
-use crate::writer_appends::{
+use crate::writer_parts::{
     append_counters, append_flow, append_front, append_other, append_record, append_tail,
-    patch_word,
+    counters_length, flow_length, front_length, patch_word,
 };
-use crate::writer_parts::{counters_length, flow_length, front_length};
 use crate::{DatagramHead, Record, RecordKind};
 use data_format::{CountersHead, FlowHead, Form, Format};
 use xdr_words::OutFull;
@@ -82,8 +81,8 @@ impl<'b> DatagramWriter<'b> {
         Ok(DatagramWriter::start(room, head))
     }
 
-    /// The same where the room is large enough for this. A caller of `begin` can't prove what the room holds in the end,
-    /// since the writer stands in a `Result`; a caller of this can.
+    /// Writes this head and a count of 0 samples into a room that is large enough for them. A caller of `begin` can't
+    /// prove what the room holds in the end, since the writer stands in a `Result`; a caller of this can.
     pub fn start(room: &'b mut [u8], head: &DatagramHead) -> DatagramWriter<'b>
         requires { length (spell (datagram_tree (head_of head.now) none)) ≤ min 65535 (length room.old) }
         ensures same { result.room.ghost_name ≡ room.entry.ghost_name }

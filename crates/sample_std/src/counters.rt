@@ -73,7 +73,7 @@ impl<'a> CountersSample<'a> {
         CountersSample::within(frame.body, frame.at, pad, check)
     }
 
-    // The same of bytes, the first of which stands at this place.
+    // The sample in the bytes of a body, the first of which stands at this place.
     #[inline(always)]
     fn within<C: BodyCheck>(
         body: &'a [u8],

@@ -73,7 +73,7 @@ impl<'b> Out<'b> {
         self.put_raw(&bytes)
     }
 
-    /// The same, where there is room for it.
+    /// Four bytes, the most significant first, where there is room for them.
     #[inline(always)]
     pub(crate) fn append_word(&mut self, value: u32)
         requires { 4 ≤ room_left self.old }

@@ -1,4 +1,4 @@
-use Rattle.std.proofs.Common.{rules, ◌≡◌, ◌<◌, List, ℕ, length, ap, ◌∙◌, arith}
+use Rattle.std.proofs.Common.{rules, ◌≡◌, ◌<◌, List, length, ap, ◌∙◌, arith}
 use Rattle.wire_spec.specs.Heads.{Head, datagram_tree}
 use Rattle.wire_spec.specs.Shapes.{Tree}
 use Rattle.wire_spec.specs.Spelling.{spell}

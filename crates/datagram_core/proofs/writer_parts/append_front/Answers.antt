@@ -1,6 +1,6 @@
-use Rattle.std.proofs.Common.{rules, ◌≡◌, drop, sym, ◌∙◌, arith}
+use Rattle.std.proofs.Common.{rules, ◌≡◌, drop, arith}
 use Rattle.datagram_core.proofs.Puts.{behind_kept, stands_in_front}
-use Rattle.datagram_core.proofs.writer_appends.append_front.Goals as goal
+use Rattle.datagram_core.proofs.writer_parts.append_front.Goals as goal
 
 pub returns-clause-extends : goal.returns-clause-extends
 returns-clause-extends c =

@@ -1,6 +1,6 @@
 use Rattle.std.proofs.Common.{rules}
 use Rattle.datagram_core.proofs.Puts.{behind_patched}
-use Rattle.datagram_core.proofs.writer_appends.patch_word.Goals as goal
+use Rattle.datagram_core.proofs.writer_parts.patch_word.Goals as goal
 
 pub returns-clause-behind : goal.returns-clause-behind
 returns-clause-behind c =

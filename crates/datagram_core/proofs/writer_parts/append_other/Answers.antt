@@ -1,14 +1,14 @@
 use Rattle.std.proofs.Common.{rules, ◌≡◌, drop, ◌∙◌}
 use Rattle.std.proofs.lemmas.List.{length-take-le}
 use Rattle.datagram_core.proofs.Puts.{behind_kept}
-use Rattle.datagram_core.proofs.writer_appends.append_counters.Goals as goal
+use Rattle.datagram_core.proofs.writer_parts.append_other.Goals as goal
 
 pub returns : goal.returns
 returns c =
-    let out = c.write_counters.new.out in
+    let out = c.write_other.new.out in
     let n = c.len.result in
     let same : drop n out.room.now ≡ drop n c.args.room.now =
-    behind_kept c.args.room.now n c.resume-out.result out _ c.resume-out.ensures.bytes c.in_ok-write_counters.ensures
+    behind_kept c.args.room.now n c.resume-out.result out _ c.resume-out.ensures.bytes c.in_ok-write_other.ensures
     (c.len.ensures ∙ length-take-le out.len out.room.now out.within) in
     record {
       size = search (rules, same);

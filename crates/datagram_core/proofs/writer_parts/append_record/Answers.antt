@@ -1,7 +1,7 @@
 use Rattle.std.proofs.Common.{rules, ◌≡◌, drop, ◌∙◌}
 use Rattle.std.proofs.lemmas.List.{length-take-le}
 use Rattle.datagram_core.proofs.Puts.{behind_kept}
-use Rattle.datagram_core.proofs.writer_appends.append_record.Goals as goal
+use Rattle.datagram_core.proofs.writer_parts.append_record.Goals as goal
 
 pub returns : goal.returns
 returns c =
