@@ -96,6 +96,19 @@ lacks (suc zero) b m x e turned one small = ne_eqb x 1 (λ q. zero-one x b m e t
     zero-one x b m e turned one q = omega arith
 lacks (suc (suc a)) b m x e turned one small = absurd (omega arith)
 
+-- how many bits a word lacks
+pub word-lacked : (word : ℕ) → word < 2 ^ 64
+    → count_ones (2 ^ 64 - 1 - word) ≡ count_below (λ i. not (bit_at word i == 1)) 64
+word-lacked word fits =
+    ones-counted 64 (2 ^ 64 - 1 - word) (omega arith)
+    ∙ count-same (λ i. bit_at (2 ^ 64 - 1 - word) i == 1) (λ i. not (bit_at word i == 1)) 64
+    (λ i within. lacks (bit_at word i) (bit_at (2 ^ 64 - 1 - word) i) 1 (bit_at (2 ^ 64 - 1 - word) i)
+    (turned (bit_at word i) (bit_at (2 ^ 64 - 1 - word) i) (bit_at_not w64 word i fits within))
+    (bit_at_not w64 word i fits within) refl (bit_at-lt word i))
+  where
+    turned : (a b : ℕ) → b ≡ 1 - a → b ≡ min b 1
+    turned a b e = omega arith
+
 -- how many bits of a run a word lacks, from the highest down
 pub run-lacked : (word low count : ℕ) → word < 2 ^ 64 → low + count ≤ 64
     → count_ones (bit_and (2 ^ 64 - 1 - word) (2 ^ (low + count) - 2 ^ low))
