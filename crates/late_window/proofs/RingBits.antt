@@ -7,7 +7,7 @@ use Rattle.std.proofs.lemmas.Nat.Bits.{shr_and_one, bit_at-zero, bit_at_set_same
 use Rattle.late_window.specs.Distances.{count_below}
 use Rattle.late_window.specs.Ring.{bit_of_slot, slot_below, bit_below}
 use Rattle.late_window.specs.declared.ring.TheConstants.{WORDS}
-use Rattle.late_window.proofs.Tallies.{count-same, count-split, count-reversed}
+use Rattle.late_window.proofs.Tallies.{count-zero, count-suc, count-same, count-split, count-reversed}
 use Rattle.late_window.proofs.WordBits.{bit-cleared, bit-left, word-lacked, run-lacked}
 
 -- ---- one bit
@@ -254,6 +254,16 @@ missing-run words slot count ones fits some in_word run =
         → not (bit_at (get_or words (slot / 64) 0) (slot % 64 + 1 - count + (count - 1 - k)) == 1)
         ≡ not (bit_at (get_or words at 0) bit == 1)
     same k other at bit e f = rw (e, f) refl
+
+pub missing-one : (p : ℕ → Bool) (from to n : ℕ) → to - from ≡ 1 → n ≡ cond (p from) 0 1
+    → n ≡ count_below (λ k. not (p (from + k))) (to - from)
+missing-one p from to n one e =
+    let at : from + 0 ≡ from = omega arith in
+    rw (one, count-suc (λ k. not (p (from + k))) 0, count-zero (λ k. not (p (from + k))), at, e) (turned (p from))
+  where
+    turned : (b : Bool) → cond {A = ℕ} b 0 1 ≡ cond (not b) 1 0 + 0
+    turned true = refl
+    turned false = refl
 
 pub missing-word : (words : List ℕ) (first word missing more : ℕ) → first ≤ word → get_or words word 0 < 2 ^ 64
     → missing ≡ count_below (λ s. not (bit_of_slot words (first * 64 + s))) ((word - first) * 64)

@@ -4,7 +4,7 @@ use Rattle.std.specs.Prelude.{◌==◌, min, cond, count_ones}
 use Rattle.std.specs.Int.{bit_at}
 use Rattle.std.proofs.Math.Nat.{pow-le-pow_right, mod-eq_of_lt, mul-sub}
 use Rattle.std.proofs.lemmas.Bool.{eq-eqb, ne_eqb}
-use Rattle.std.proofs.lemmas.Nat.{pow_pos, pow-add, ones_cat, ones-le, ones_le_self, and_le_r}
+use Rattle.std.proofs.lemmas.Nat.{one_shl, pow_pos, pow-add, ones_cat, ones-le, ones_le_self, and_le_r}
 use Rattle.std.proofs.lemmas.Nat.Bits.{bit_at-lt, bit_at-suc, bit_at_lowest, bit_at_and, bit_at_not, ones_shr, bit_at_mask_inside, bit_at_mask_below, bit_at_mask_above}
 use Rattle.late_window.specs.Distances.{count_below}
 use Rattle.late_window.proofs.Tallies.{count-zero, count-same, count-none, count-split, count-first, count-reversed}
@@ -31,6 +31,12 @@ run-made low count in_word =
     ones_shr 64 (64 - count) (omega arith) ∙ ap (λ (j : ℕ). 2 ^ j - 1) left in
     ap (λ (n : ℕ). n * 2 ^ low % 2 ^ 64) ones ∙ ap (λ (n : ℕ). n % 2 ^ 64) (run-shifted low count)
     ∙ mod-eq_of_lt (run-fits low count in_word)
+
+pub one-made : (low : ℕ) → low < 64 → 1 * 2 ^ low % 2 ^ 64 ≡ 2 ^ (low + 1) - 2 ^ low
+one-made low within =
+    let one = one_shl low 64 within in
+    let double = pow-add 2 low 1 in
+    omega (arith, one, double)
 
 -- ---- a word without a run
 

@@ -119,6 +119,10 @@ impl Ring {
             → bit_of_slot self.new.words s ≡ bit_of_slot self.old.words s }
         ensures slots { self.new.slots ≡ self.old.slots }
     {
+        if most == 1 {
+            self.words[slot / 64] = self.words[slot / 64] & !(1 << (slot % 64));
+            return 1;
+        }
         if slot % 64 == 0 && most >= 64 {
             return self.clear_words(slot, most);
         }
@@ -155,6 +159,9 @@ impl Ring {
         ensures { result ≡ count_below (λ k. not (bit_below self.now.words self.now.slots self.now.head (from + k)))
             (to - from) }
     {
+        if to - from == 1 {
+            return if self.has(from) { 0 } else { 1 };
+        }
         let mut missing = 0;
         let mut back = from;
         while back < to {

@@ -1,7 +1,7 @@
-use Rattle.std.proofs.Common.{◌≡◌, ◌+◌, ◌-◌, ◌*◌, ◌/◌, ◌<◌, ◌≤◌, not, sym, ◌∙◌, arith}
+use Rattle.std.proofs.Common.{◌≡◌, ◌+◌, ◌-◌, ◌*◌, ◌/◌, ◌<◌, ◌≤◌, not, cond, Bool, ℕ, ap, sym, ◌∙◌, arith}
 use Rattle.late_window.specs.Ring.{bit_below, bit_of_slot}
 use Rattle.late_window.proofs.Tallies.{count-bound, count-zero}
-use Rattle.late_window.proofs.RingBits.{missing-more, missing-down}
+use Rattle.late_window.proofs.RingBits.{missing-one, missing-more, missing-down}
 use Rattle.late_window.proofs.ring.Ring.missing.Goals as goal
 
 pub loop-back-init : goal.loop-back-init
@@ -61,3 +61,13 @@ loop-back-preserved c =
           c.loop-back.back c.slot-slot.result c.min-count.result c.loop-back.missing c.missing_in_word-missing.result from
           (omega arith) c.slot-slot.ensures.value (omega arith) c.loop-back.invariant.2 c.missing_in_word-missing.ensures,
     )
+
+pub returns-then-has : goal.returns-then-has
+returns-then-has c = missing-one (bit_below c.args.self.now.words c.args.self.now.slots c.args.self.now.head) c.args.from
+    c.args.to 0 c.if-to-from-eq1.true
+    (sym (ap (λ (b : Bool). cond {A = ℕ} b 0 1) (sym c.has.ensures ∙ c.if-has.true)))
+
+pub returns-else-has : goal.returns-else-has
+returns-else-has c = missing-one (bit_below c.args.self.now.words c.args.self.now.slots c.args.self.now.head) c.args.from
+    c.args.to 1 c.if-to-from-eq1.true
+    (sym (ap (λ (b : Bool). cond {A = ℕ} b 0 1) (sym c.has.ensures ∙ c.if-has.false)))
