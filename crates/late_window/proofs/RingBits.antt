@@ -7,8 +7,8 @@ use Rattle.std.proofs.lemmas.Nat.Bits.{shr_and_one, bit_at-zero, bit_at_set_same
 use Rattle.late_window.specs.Distances.{count_below}
 use Rattle.late_window.specs.Ring.{bit_of_slot, slot_below, bit_below}
 use Rattle.late_window.specs.declared.ring.TheConstants.{WORDS}
-use Rattle.late_window.proofs.Tallies.{count-same, count-split}
-use Rattle.late_window.proofs.WordBits.{bit-cleared, bit-left, run-lacked}
+use Rattle.late_window.proofs.Tallies.{count-zero, count-suc, count-same, count-split, count-reversed}
+use Rattle.late_window.proofs.WordBits.{bit-cleared, bit-left, word-lacked, run-lacked}
 
 -- ---- one bit
 
@@ -57,7 +57,7 @@ bit-added words slot other len within =
 abbrev cleared : List ℕ → ℕ → ℕ → List ℕ
 cleared words slot ones = set words (slot / 64) (bit_and (get_or words (slot / 64) 0) (2 ^ 64 - 1 - ones))
 
-slot-cleared : (words : List ℕ) (slot step other ones : ℕ) → length words ≡ WORDS → slot < 64 * WORDS
+pub slot-cleared : (words : List ℕ) (slot step other ones : ℕ) → length words ≡ WORDS → slot < 64 * WORDS
     → slot % 64 + step ≤ 64 → ones ≡ 2 ^ (slot % 64 + step) - 2 ^ (slot % 64) → slot ≤ other → other < slot + step
     → bit_of_slot (cleared words slot ones) other ≡ false
 unfolding bit_of_slot
@@ -68,7 +68,7 @@ slot-cleared words slot step other ones len within in_word run from to =
     let none = bit-cleared word (slot % 64) step (other % 64) in_word (omega arith) (omega arith) in
     rw (here, read, run, none) refl
 
-slot-left : (words : List ℕ) (slot step other ones : ℕ) → length words ≡ WORDS → slot < 64 * WORDS
+pub slot-left : (words : List ℕ) (slot step other ones : ℕ) → length words ≡ WORDS → slot < 64 * WORDS
     → slot % 64 + step ≤ 64 → ones ≡ 2 ^ (slot % 64 + step) - 2 ^ (slot % 64) → (other < slot) ⊎ (slot + step ≤ other)
     → bit_of_slot (cleared words slot ones) other ≡ bit_of_slot words other
 unfolding bit_of_slot
@@ -88,6 +88,29 @@ slot-left words slot step other ones len within in_word run out =
         → (other % 64 < slot % 64) ⊎ (slot % 64 + step ≤ other % 64)
     beside here (inl below) = inl (omega arith)
     beside here (inr above) = inr (omega arith)
+
+-- ---- whole words
+
+-- the words from first up to end are 0, and the others are as they were
+pub record Zeroed (old new : List ℕ) (first end : ℕ) : Type 0 where
+  pub zero_words : (i : ℕ) → first ≤ i → i < end → get_or new i 0 ≡ 0
+  pub other_words : (i : ℕ) → (i < first) ⊎ (end ≤ i) → get_or new i 0 ≡ get_or old i 0
+
+pub zeroed-cleared : (old new : List ℕ) (slot count s : ℕ) → slot % 64 ≡ 0
+    → Zeroed old new (slot / 64) (slot / 64 + count) → slot ≤ s → s < slot + count * 64 → bit_of_slot new s ≡ false
+unfolding bit_of_slot
+zeroed-cleared old new slot count s whole z from to =
+    rw (z.zero_words (s / 64) (omega arith) (omega arith), bit_at-zero (s % 64)) refl
+
+pub zeroed-others : (old new : List ℕ) (slot count s : ℕ) → slot % 64 ≡ 0
+    → Zeroed old new (slot / 64) (slot / 64 + count) → (s < slot) ⊎ (slot + count * 64 ≤ s)
+    → bit_of_slot new s ≡ bit_of_slot old s
+unfolding bit_of_slot
+zeroed-others old new slot count s whole z out = rw (z.other_words (s / 64) (beside out)) refl
+  where
+    beside : (s < slot) ⊎ (slot + count * 64 ≤ s) → (s / 64 < slot / 64) ⊎ (slot / 64 + count ≤ s / 64)
+    beside (inl below) = inl (omega arith)
+    beside (inr above) = inr (omega arith)
 
 -- ---- slots
 
@@ -169,25 +192,19 @@ slot-beside slots head slot step k h (inr next) some reached within =
     let is = slot-near slots head (k - step) (omega arith) in
     inr (omega (arith, is))
 
-pub below-moved : (words : List ℕ) (slots head slot step ones k : ℕ) → length words ≡ WORDS → slots ≤ 64 * WORDS
-    → head < slots → IsNext slots head slot → 1 ≤ step → slot % 64 + step ≤ 64
-    → ones ≡ 2 ^ (slot % 64 + step) - 2 ^ (slot % 64) → k < slots
-    → bit_below (set words (slot / 64) (bit_and (get_or words (slot / 64) 0) (2 ^ 64 - 1 - ones))) slots (slot + step - 1) k
-    ≡ (nat_le step k && bit_below words slots head (k - step))
-below-moved words slots head slot step ones k len room h next some in_word run within =
-    let inside : slot < 64 * WORDS = elim next [
-      | inl e ↦ let at : slot ≡ head + 1 = e.1 in let before : head + 1 < slots = e.0 in omega arith
-      | inr e ↦ let at : slot ≡ 0 = e.1 in omega arith
-    ] in
+pub below-moved : (old new : List ℕ) (slots head slot step k : ℕ) → head < slots → IsNext slots head slot → 1 ≤ step
+    → ((s : ℕ) → slot ≤ s → s < slot + step → bit_of_slot new s ≡ false)
+    → ((s : ℕ) → (s < slot) ⊎ (slot + step ≤ s) → bit_of_slot new s ≡ bit_of_slot old s) → k < slots
+    → bit_below new slots (slot + step - 1) k ≡ (nat_le step k && bit_below old slots head (k - step))
+below-moved old new slots head slot step k h next some cleared others within =
     elim (cases_lt k step) [
       | inl passed ↦
           let at = slot-near slots (slot + step - 1) k (omega arith) in
-          rw (at, lt-leb step k passed) (slot-cleared words slot step (slot + step - 1 - k) ones len inside in_word run
-          (omega arith) (omega arith))
+          rw (at, lt-leb step k passed) (cleared (slot + step - 1 - k) (omega arith) (omega arith))
       | inr reached ↦
           let at = slot-kept slots head slot step k h next some reached within in
-          rw (at, le-leb step k reached) (slot-left words slot step (slot_below slots head (k - step)) ones len inside
-          in_word run (slot-beside slots head slot step k h next some reached within))
+          rw (at, le-leb step k reached) (others (slot_below slots head (k - step))
+          (slot-beside slots head slot step k h next some reached within))
     ]
 
 -- so many more after so many
@@ -238,8 +255,57 @@ missing-run words slot count ones fits some in_word run =
         ≡ not (bit_at (get_or words at 0) bit == 1)
     same k other at bit e f = rw (e, f) refl
 
--- within a word the slots go down as the distances grow
-slot-down : (slots head back k : ℕ) → back + k < slots → k ≤ slot_below slots head back % 64
+pub missing-one : (p : ℕ → Bool) (from to n : ℕ) → to - from ≡ 1 → n ≡ cond (p from) 0 1
+    → n ≡ count_below (λ k. not (p (from + k))) (to - from)
+missing-one p from to n one e =
+    let at : from + 0 ≡ from = omega arith in
+    rw (one, count-suc (λ k. not (p (from + k))) 0, count-zero (λ k. not (p (from + k))), at, e) (turned (p from))
+  where
+    turned : (b : Bool) → cond {A = ℕ} b 0 1 ≡ cond (not b) 1 0 + 0
+    turned true = refl
+    turned false = refl
+
+pub missing-word : (words : List ℕ) (first word missing more : ℕ) → first ≤ word → get_or words word 0 < 2 ^ 64
+    → missing ≡ count_below (λ s. not (bit_of_slot words (first * 64 + s))) ((word - first) * 64)
+    → more ≡ count_ones (2 ^ 64 - 1 - get_or words word 0)
+    → missing + more ≡ count_below (λ s. not (bit_of_slot words (first * 64 + s))) ((word + 1 - first) * 64)
+unfolding bit_of_slot
+missing-word words first word missing more order fits e f =
+    let parts : (word + 1 - first) * 64 ≡ (word - first) * 64 + 64 = omega arith in
+    let split = count-split (λ s. not (bit_of_slot words (first * 64 + s))) ((word - first) * 64) 64 in
+    let those : count_below (λ i. not (bit_at (get_or words word 0) i == 1)) 64
+    ≡ count_below (λ i. not (bit_of_slot words (first * 64 + ((word - first) * 64 + i)))) 64 =
+    count-same (λ i. not (bit_at (get_or words word 0) i == 1))
+    (λ i. not (bit_of_slot words (first * 64 + ((word - first) * 64 + i)))) 64
+    (λ i within. there i ((first * 64 + ((word - first) * 64 + i)) / 64) ((first * 64 + ((word - first) * 64 + i)) % 64)
+    (omega arith) (omega arith)) in
+    let lacked = word-lacked (get_or words word 0) fits in
+    rw parts (omega (arith, split, those, lacked, e, f))
+  where
+    there : (i at bit : ℕ) → at ≡ word → bit ≡ i
+        → not (bit_at (get_or words word 0) i == 1) ≡ not (bit_at (get_or words at 0) bit == 1)
+    there i at bit e f = rw (e, f) refl
+
+pub missing-words : (words : List ℕ) (first count : ℕ)
+    → count_below (λ s. not (bit_of_slot words (first * 64 + s))) (count * 64)
+    ≡ count_below (λ k. not (bit_of_slot words ((first + count) * 64 - 1 - k))) (count * 64)
+missing-words words first count =
+    count-reversed (λ s. not (bit_of_slot words (first * 64 + s))) (count * 64)
+    ∙ count-same (λ k. not (bit_of_slot words (first * 64 + (count * 64 - 1 - k))))
+    (λ k. not (bit_of_slot words ((first + count) * 64 - 1 - k))) (count * 64)
+    (λ k b. ap (λ (s : ℕ). not (bit_of_slot words s)) (omega arith))
+
+-- the slots of so many words from the top one down
+pub missing-down : (words : List ℕ) (slot count : ℕ) → slot % 64 ≡ 63 → count ≤ slot / 64 + 1
+    → count_below (λ k. not (bit_of_slot words ((slot / 64 + 1 - count + count) * 64 - 1 - k))) (count * 64)
+    ≡ count_below (λ k. not (bit_of_slot words (slot - k))) (count * 64)
+missing-down words slot count top few =
+    count-same (λ k. not (bit_of_slot words ((slot / 64 + 1 - count + count) * 64 - 1 - k)))
+    (λ k. not (bit_of_slot words (slot - k))) (count * 64)
+    (λ k b. ap (λ (s : ℕ). not (bit_of_slot words s)) (omega arith))
+
+-- the slots go down as the distances grow
+slot-down : (slots head back k : ℕ) → back + k < slots → k ≤ slot_below slots head back
     → slot_below slots head (back + k) ≡ slot_below slots head back - k
 slot-down slots head back k within low = elim (cases_lt head back) [
   | inl far ↦ slot-far slots head (back + k) (omega arith) ∙ (let at = slot-far slots head back far in omega (arith, at))
@@ -249,7 +315,7 @@ slot-down slots head back k within low = elim (cases_lt head back) [
 ]
 
 pub missing-more : (words : List ℕ) (slots head from back slot count missing more : ℕ) → from ≤ back
-    → back + count ≤ slots → slot ≡ slot_below slots head back → count ≤ slot % 64 + 1
+    → back + count ≤ slots → slot ≡ slot_below slots head back → count ≤ slot + 1
     → missing ≡ count_below (λ k. not (bit_below words slots head (from + k))) (back - from)
     → more ≡ count_below (λ k. not (bit_of_slot words (slot - k))) count
     → missing + more ≡ count_below (λ k. not (bit_below words slots head (from + k))) (back + count - from)

@@ -4,7 +4,7 @@ use Rattle.std.specs.Prelude.{◌==◌, min, cond, count_ones}
 use Rattle.std.specs.Int.{bit_at}
 use Rattle.std.proofs.Math.Nat.{pow-le-pow_right, mod-eq_of_lt, mul-sub}
 use Rattle.std.proofs.lemmas.Bool.{eq-eqb, ne_eqb}
-use Rattle.std.proofs.lemmas.Nat.{pow_pos, pow-add, ones_cat, ones-le, ones_le_self, and_le_r}
+use Rattle.std.proofs.lemmas.Nat.{one_shl, pow_pos, pow-add, ones_cat, ones-le, ones_le_self, and_le_r}
 use Rattle.std.proofs.lemmas.Nat.Bits.{bit_at-lt, bit_at-suc, bit_at_lowest, bit_at_and, bit_at_not, ones_shr, bit_at_mask_inside, bit_at_mask_below, bit_at_mask_above}
 use Rattle.late_window.specs.Distances.{count_below}
 use Rattle.late_window.proofs.Tallies.{count-zero, count-same, count-none, count-split, count-first, count-reversed}
@@ -31,6 +31,12 @@ run-made low count in_word =
     ones_shr 64 (64 - count) (omega arith) ∙ ap (λ (j : ℕ). 2 ^ j - 1) left in
     ap (λ (n : ℕ). n * 2 ^ low % 2 ^ 64) ones ∙ ap (λ (n : ℕ). n % 2 ^ 64) (run-shifted low count)
     ∙ mod-eq_of_lt (run-fits low count in_word)
+
+pub one-made : (low : ℕ) → low < 64 → 1 * 2 ^ low % 2 ^ 64 ≡ 2 ^ (low + 1) - 2 ^ low
+one-made low within =
+    let one = one_shl low 64 within in
+    let double = pow-add 2 low 1 in
+    omega (arith, one, double)
 
 -- ---- a word without a run
 
@@ -95,6 +101,19 @@ lacks (suc zero) b m x e turned one small = ne_eqb x 1 (λ q. zero-one x b m e t
     zero-one : (x b m : ℕ) → x ≡ min b m → b ≡ 1 - 1 → m ≡ 1 → x ≡ 1 → ⊥
     zero-one x b m e turned one q = omega arith
 lacks (suc (suc a)) b m x e turned one small = absurd (omega arith)
+
+-- how many bits a word lacks
+pub word-lacked : (word : ℕ) → word < 2 ^ 64
+    → count_ones (2 ^ 64 - 1 - word) ≡ count_below (λ i. not (bit_at word i == 1)) 64
+word-lacked word fits =
+    ones-counted 64 (2 ^ 64 - 1 - word) (omega arith)
+    ∙ count-same (λ i. bit_at (2 ^ 64 - 1 - word) i == 1) (λ i. not (bit_at word i == 1)) 64
+    (λ i within. lacks (bit_at word i) (bit_at (2 ^ 64 - 1 - word) i) 1 (bit_at (2 ^ 64 - 1 - word) i)
+    (turned (bit_at word i) (bit_at (2 ^ 64 - 1 - word) i) (bit_at_not w64 word i fits within))
+    (bit_at_not w64 word i fits within) refl (bit_at-lt word i))
+  where
+    turned : (a b : ℕ) → b ≡ 1 - a → b ≡ min b 1
+    turned a b e = omega arith
 
 -- how many bits of a run a word lacks, from the highest down
 pub run-lacked : (word low count : ℕ) → word < 2 ^ 64 → low + count ≤ 64

@@ -1,4 +1,4 @@
-ghost use Rattle.std.specs.Prelude.{◌≡◌, ℕ, ◌+◌, ◌-◌, ◌*◌, ◌%◌, ◌^◌, ◌<◌, ◌≤◌, ◌==◌, ◌&&◌, ◌||◌, nat_le, not, false};
+ghost use Rattle.std.specs.Prelude.{◌≡◌, ℕ, ◌+◌, ◌-◌, ◌*◌, ◌%◌, ◌^◌, ◌<◌, ◌≤◌, ◌==◌, ◌&&◌, ◌||◌, ◌⊎◌, nat_le, not, false};
 ghost use Rattle.late_window.specs.Distances.{count_below};
 ghost use Rattle.late_window.specs.Ring.{bit_of_slot, slot_below, bit_below};
 ghost use Rattle.late_window.specs.declared.TheConstants.{MAX_WIDTH};
@@ -85,13 +85,13 @@ impl Ring {
     {
         let mut left = step;
         while left > 0 {
-            left -= self.advance_in_word(left);
+            left -= self.advance_some(left);
         }
     }
 
-    /// The newest number moves on within the word of the next slot, as far as that goes but no further than `most`.
-    /// None of the numbers on the way is counted. Answers how far.
-    fn advance_in_word(&mut self, most: usize) -> usize
+    /// The newest number moves on by `most` at most, as far as its slots can be cleared at once. None of the numbers on
+    /// the way is counted. Answers how far.
+    fn advance_some(&mut self, most: usize) -> usize
         requires { 1 ≤ most }
         ensures from { 1 ≤ result }
         ensures to { result ≤ most }
@@ -101,10 +101,55 @@ impl Ring {
     {
         let next = self.head + 1;
         let slot = if next == self.slots { 0 } else { next };
-        let step = most.min(64 - slot % 64);
-        self.words[slot / 64] = self.words[slot / 64] & !ones_from(slot % 64, step);
+        let step = self.clear_some(slot, most);
         self.head = slot + step - 1;
         step
+    }
+
+    /// Clears the bits of slots from this one on, `most` at most: whole words as far as they go, else those of its word.
+    /// Answers how many.
+    fn clear_some(&mut self, slot: usize, most: usize) -> usize
+        requires in_ring { slot < self.old.slots }
+        requires some { 1 ≤ most }
+        ensures from { 1 ≤ result }
+        ensures to { result ≤ most }
+        ensures in_ring { slot + result ≤ self.old.slots }
+        ensures cleared { (s : ℕ) → slot ≤ s → s < slot + result → bit_of_slot self.new.words s ≡ false }
+        ensures others { (s : ℕ) → (s < slot) ⊎ (slot + result ≤ s)
+            → bit_of_slot self.new.words s ≡ bit_of_slot self.old.words s }
+        ensures slots { self.new.slots ≡ self.old.slots }
+    {
+        if most == 1 {
+            self.words[slot / 64] = self.words[slot / 64] & !(1 << (slot % 64));
+            return 1;
+        }
+        if slot % 64 == 0 && most >= 64 {
+            return self.clear_words(slot, most);
+        }
+        let count = most.min(64 - slot % 64);
+        self.words[slot / 64] = self.words[slot / 64] & !ones_from(slot % 64, count);
+        count
+    }
+
+    /// Clears whole words from this slot on, as far as `most` slots and the ring go. Answers how many slots.
+    fn clear_words(&mut self, slot: usize, most: usize) -> usize
+        requires in_ring { slot < self.old.slots }
+        requires whole { slot % 64 ≡ 0 }
+        requires some { 64 ≤ most }
+        ensures from { 1 ≤ result }
+        ensures to { result ≤ most }
+        ensures in_ring { slot + result ≤ self.old.slots }
+        ensures cleared { (s : ℕ) → slot ≤ s → s < slot + result → bit_of_slot self.new.words s ≡ false }
+        ensures others { (s : ℕ) → (s < slot) ⊎ (slot + result ≤ s)
+            → bit_of_slot self.new.words s ≡ bit_of_slot self.old.words s }
+        ensures slots { self.new.slots ≡ self.old.slots }
+    {
+        let first = slot / 64;
+        let count = (most / 64).min(self.slots / 64 - first);
+        for word in first..first + count {
+            self.words[word] = 0;
+        }
+        count * 64
     }
 
     /// How many of the numbers from `from` up to and without `to` below the newest weren't counted.
@@ -114,13 +159,36 @@ impl Ring {
         ensures { result ≡ count_below (λ k. not (bit_below self.now.words self.now.slots self.now.head (from + k)))
             (to - from) }
     {
+        if to - from == 1 {
+            return if self.has(from) { 0 } else { 1 };
+        }
         let mut missing = 0;
         let mut back = from;
         while back < to {
             let slot = self.slot(back);
-            let count = (to - back).min(slot % 64 + 1);
-            missing += self.missing_in_word(slot, count);
-            back += count;
+            let left = to - back;
+            if slot % 64 == 63 && left >= 64 {
+                let words = (left / 64).min(slot / 64 + 1);
+                missing += self.missing_in_words(slot / 64 + 1 - words, words);
+                back += words * 64;
+            } else {
+                let count = left.min(slot % 64 + 1);
+                missing += self.missing_in_word(slot, count);
+                back += count;
+            }
+        }
+        missing
+    }
+
+    /// How many of the slots of so many words have no bit.
+    fn missing_in_words(&self, first: usize, count: usize) -> u32
+        requires { first + count ≤ WORDS }
+        ensures { result ≡ count_below (λ k. not (bit_of_slot self.now.words ((first + count) * 64 - 1 - k)))
+            (count * 64) }
+    {
+        let mut missing = 0;
+        for word in first..first + count {
+            missing += (!self.words[word]).count_ones();
         }
         missing
     }

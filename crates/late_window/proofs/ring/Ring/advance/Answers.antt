@@ -16,18 +16,18 @@ pub loop-left-preserved : goal.loop-left-preserved
 loop-left-preserved c =
     let order : c.loop-left.left ≤ c.args.step = c.loop-left.invariant.0 in
     let same : c.loop-left.self.slots ≡ c.args.self.now.slots = c.loop-left.invariant.1 in
-    let to : c.advance_in_word-left.result ≤ c.loop-left.left = c.advance_in_word-left.ensures.to in
-    let far : c.args.step - (c.loop-left.left - c.advance_in_word-left.result)
-    ≡ (c.args.step - c.loop-left.left) + c.advance_in_word-left.result = omega arith in (
+    let to : c.advance_some-left.result ≤ c.loop-left.left = c.advance_some-left.ensures.to in
+    let far : c.args.step - (c.loop-left.left - c.advance_some-left.result)
+    ≡ (c.args.step - c.loop-left.left) + c.advance_some-left.result = omega arith in (
       omega arith,
-      c.advance_in_word-left.ensures.slots ∙ same,
+      c.advance_some-left.ensures.slots ∙ same,
       λ k within. rw far
           (moved-more (bit_below c.args.self.now.words c.args.self.now.slots c.args.self.now.head)
           (bit_below c.loop-left.self.words c.loop-left.self.slots c.loop-left.self.head)
-          (bit_below c.advance_in_word-left.new.self.words c.advance_in_word-left.new.self.slots
-          c.advance_in_word-left.new.self.head)
-          c.args.self.now.slots (c.args.step - c.loop-left.left) c.advance_in_word-left.result k within c.loop-left.invariant.2
-          (λ k b. c.advance_in_word-left.ensures.moved k (omega arith))),
+          (bit_below c.advance_some-left.new.self.words c.advance_some-left.new.self.slots
+          c.advance_some-left.new.self.head)
+          c.args.self.now.slots (c.args.step - c.loop-left.left) c.advance_some-left.result k within c.loop-left.invariant.2
+          (λ k b. c.advance_some-left.ensures.moved k (omega arith))),
     )
 
 pub returns-clause-moved : goal.returns-clause-moved
