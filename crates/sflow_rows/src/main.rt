@@ -16,13 +16,14 @@ use std::{fs, io};
 use table::Table;
 
 // What rows share comes first.
-const TABLES: [&str; 9] = [
+const TABLES: [&str; 10] = [
     "parts.txt",
     "words.txt",
     "replay.txt",
     "sources.txt",
     "show.txt",
     "check.txt",
+    "records.txt",
     "canon.txt",
     "ends.txt",
     "wrong.txt",
