@@ -1,55 +1,57 @@
 //! The program `sflow`: the commands over standard input and standard output.
 #![tactic(auto)]
 
+ghost use Rattle.std.specs.Prelude.{◌≡◌};
+ghost use Rattle.std.specs.Process.{exit_status};
+ghost use Rattle.sflow_tool.specs.Statuses.{code_of};
+
 use sflow_tool::{InputSource, OutputSink, Seeds, Status, run};
-use std::alloc::{AllocError, Global};
+use std::alloc::Global;
 use std::env::Env;
 use std::hash::RandomState;
 use std::process::ExitCode;
 use std::random::RandomSource;
 use std::{env, io};
 
-#[cfg(test)]
-mod canon_tests;
-#[cfg(test)]
-mod replay_tests;
-#[cfg(test)]
-mod tests;
-
 // The exit codes where the machine gives no list of words, and where it gives no random bytes.
 const NO_WORDS: u8 = 9;
 
 const NO_RANDOM_BYTES: u8 = 10;
 
-// Why something that a run needs couldn't be had.
-#[derive(Debug, Drop)]
+// Why there is no run.
+#[derive(Clone, Copy, Debug, PartialEq, Eq)]
 enum Lack {
+    // Memory was refused.
     Memory,
-    Machine,
-}
-
-impl From<AllocError> for Lack {
-    fn from(_: AllocError) -> Lack {
-        Lack::Memory
-    }
-}
-
-impl From<io::Error> for Lack {
-    fn from(error: io::Error) -> Lack {
-        match error.kind() {
-            io::ErrorKind::OutOfMemory => Lack::Memory,
-            _ => Lack::Machine,
-        }
-    }
+    // A word isn't text in UTF-8, so it is none that a command takes.
+    Usage,
+    // There is no list of words, not even one with the program's name.
+    Words,
+    // There are no random bytes for the seeds.
+    RandomBytes,
 }
 
 // The words of the command line, without the program's name.
 fn words<R: Env + Alloc<A = Global>>(rt: &R) -> Result<Vec<String>, Lack> {
+    let mut given = env::args(rt).map_err(|error| lack_of_words(&error))?;
+    if given.next().is_none() {
+        return Err(Lack::Words);
+    }
     let mut words = Vec::new(rt.alloc());
-    for word in env::args(rt)?.skip(1) {
-        words.push(word).map_err(AllocError::from)?;
+    for word in given {
+        if words.push(word).is_err() {
+            return Err(Lack::Memory);
+        }
     }
     Ok(words)
+}
+
+fn lack_of_words(error: &io::Error) -> Lack {
+    match error.kind() {
+        io::ErrorKind::OutOfMemory => Lack::Memory,
+        io::ErrorKind::InvalidData => Lack::Usage,
+        _ => Lack::Words,
+    }
 }
 
 // What the hashes of a collector's tables begin with, so that no stranger can choose keys of one hash.
@@ -60,35 +62,49 @@ fn seeds(rt: &impl RandomSource) -> Result<Seeds, io::Error> {
     })
 }
 
-// Says on standard error how the run ended, where there is something to say.
-fn report(rt: &impl Eprint, status: &Status) -> ExitCode {
-    let text = status.text();
-    let text = text.as_str();
+fn lack_of_seeds(error: &io::Error) -> Lack {
+    match error.kind() {
+        io::ErrorKind::OutOfMemory => Lack::Memory,
+        _ => Lack::RandomBytes,
+    }
+}
+
+// Says the text on standard error, where there is one.
+fn end(rt: &impl Eprint, text: &str, code: u8) -> ExitCode
+    ensures { exit_status result ≡ code }
+{
     if !text.is_empty() {
         let _ = eprintln!(rt; "sflow: {text}");
     }
-    ExitCode::from(status.code())
+    ExitCode::from(code)
+}
+
+fn end_run(rt: &impl Eprint, status: &Status) -> ExitCode
+    ensures { exit_status result ≡ code_of status.now }
+{
+    end(rt, status.text().as_str(), status.code())
+}
+
+fn end_without_run(rt: &impl Eprint, lack: Lack) -> ExitCode {
+    match lack {
+        Lack::Memory => end_run(rt, &Status::Memory),
+        Lack::Usage => end_run(rt, &Status::Usage),
+        Lack::Words => end(rt, "no words", NO_WORDS),
+        Lack::RandomBytes => end(rt, "no random bytes", NO_RANDOM_BYTES),
+    }
 }
 
 fn main(rt: HostRuntime) -> ExitCode {
+    let seeds = match seeds(&rt) {
+        Ok(seeds) => seeds,
+        Err(error) => return end_without_run(&rt, lack_of_seeds(&error)),
+    };
     let words = match words(&rt) {
         Ok(words) => words,
-        Err(Lack::Memory) => return report(&rt, &Status::Memory),
-        Err(Lack::Machine) => {
-            let _ = eprintln!(rt; "sflow: no words");
-            return ExitCode::from(NO_WORDS);
-        }
-    };
-    let seeds = match seeds(&rt).map_err(Lack::from) {
-        Ok(seeds) => seeds,
-        Err(Lack::Memory) => return report(&rt, &Status::Memory),
-        Err(Lack::Machine) => {
-            let _ = eprintln!(rt; "sflow: no random bytes");
-            return ExitCode::from(NO_RANDOM_BYTES);
-        }
+        Err(lack) => return end_without_run(&rt, lack),
     };
     let mut source = InputSource::new(rt);
     let mut sink = OutputSink::new(rt);
     let status = run(rt.alloc(), &words, seeds, &mut source, &mut sink);
-    report(&rt, &status)
+    end_run(&rt, &status)
 }

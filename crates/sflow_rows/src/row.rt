@@ -1,0 +1,43 @@
+use std::alloc::{AllocError, Global};
+
+/// A command on an input, and what must come of it.
+#[derive(Clone, Drop)]
+pub struct Row {
+    pub name: String,
+    pub words: Vec<String>,
+    pub input: Vec<u8>,
+    /// The lengths of the beginnings of the input that are tried, from the first to the last; without them the whole
+    /// input is.
+    pub fronts: Option<(usize, usize)>,
+    /// The most bytes that a read moves, each in a run of its own.
+    pub pieces: Vec<usize>,
+    /// The numbers of the reads and of the writes that fail, from 1 on.
+    pub read_fails: Vec<u64>,
+    pub write_fails: Vec<u64>,
+    /// How many bytes the sink takes in all.
+    pub room: u64,
+    /// The code and the text of the status.
+    pub status: String,
+    pub output: Vec<u8>,
+    /// How many bytes of the input the source still has, where that is compared.
+    pub left: Option<usize>,
+}
+
+impl Row {
+    /// One that asks for nothing, gives nothing and ends well.
+    pub fn new(alloc: Global, name: &str) -> Result<Row, AllocError> {
+        Ok(Row {
+            name: String::from_str(alloc, name)?,
+            words: Vec::new(alloc),
+            input: Vec::new(alloc),
+            fronts: None,
+            pieces: Vec::new(alloc),
+            read_fails: Vec::new(alloc),
+            write_fails: Vec::new(alloc),
+            room: u64::MAX,
+            status: String::from_str(alloc, "0")?,
+            output: Vec::new(alloc),
+            left: None,
+        })
+    }
+}

@@ -1,0 +1,86 @@
+//! A row's runs over the memory forms of the outside.
+use crate::row::Row;
+use sflow_tool::{MemorySink, MemorySource, Seeds, Source, Status, run};
+use std::alloc::{AllocError, Global};
+
+// The piece that a read moves where the row names none.
+const WHOLE: usize = 65_536;
+
+/// What comes of the row that it doesn't say; None where it holds.
+pub fn difference(alloc: Global, seeds: Seeds, row: &Row) -> Result<Option<String>, AllocError> {
+    let (first, last) = row.fronts.unwrap_or((row.input.len(), row.input.len()));
+    let whole = [WHOLE];
+    let pieces = if row.pieces.is_empty() {
+        whole.as_slice()
+    } else {
+        row.pieces.as_slice()
+    };
+    for length in first..=last {
+        for piece in pieces {
+            let input = row.input.get(..length).unwrap_or(&row.input);
+            let found = difference_in_pieces(alloc, seeds, row, input, *piece)?;
+            if found.is_some() {
+                return Ok(found);
+            }
+        }
+    }
+    Ok(None)
+}
+
+fn difference_in_pieces(
+    alloc: Global,
+    seeds: Seeds,
+    row: &Row,
+    input: &[u8],
+    piece: usize,
+) -> Result<Option<String>, AllocError> {
+    let bytes = Vec::from_slice(alloc, input)?;
+    let read_fails = Vec::from_slice(alloc, &row.read_fails)?;
+    let write_fails = Vec::from_slice(alloc, &row.write_fails)?;
+    let mut source = MemorySource::new(bytes, piece.max(1), read_fails);
+    let mut sink = MemorySink::new(alloc, row.room, write_fails);
+    let status = run(alloc, &row.words, seeds, &mut source, &mut sink);
+    let status = shown(alloc, &status)?;
+    if status.as_str() != row.status.as_str() {
+        return Ok(Some(format!(in alloc; "status {status}")?));
+    }
+    if sink.bytes() != row.output.as_slice() {
+        let output = String::from_utf8_lossy(alloc, sink.bytes())?;
+        return Ok(Some(format!(in alloc; "output {output:?}")?));
+    }
+    if sink.lacked() != 0 {
+        return Ok(Some(String::from_str(alloc, "the sink lacked memory")?));
+    }
+    let Some(want) = row.left else {
+        return Ok(None);
+    };
+    let left = rest_of(alloc, &mut source)?;
+    if left.len() != want || !input.ends_with(&left) {
+        return Ok(Some(format!(in alloc; "left {}", left.len())?));
+    }
+    Ok(None)
+}
+
+// The code of the status, and its text where it has one.
+fn shown(alloc: Global, status: &Status) -> Result<String, AllocError> {
+    let text = status.text();
+    let text = text.as_str();
+    if text.is_empty() {
+        return format!(in alloc; "{}", status.code());
+    }
+    format!(in alloc; "{} {text}", status.code())
+}
+
+// What the source still has; reads that fail are made again.
+fn rest_of(alloc: Global, source: &mut MemorySource) -> Result<Vec<u8>, AllocError> {
+    let mut rest = Vec::new(alloc);
+    let mut room = [0; 4096];
+    for _ in 0..u64::MAX {
+        match source.read(&mut room) {
+            Ok(0) => break,
+            Ok(count) => rest.extend_from_slice(&room[..count])?,
+            Err(_) => {}
+        }
+    }
+    Ok(rest)
+}
