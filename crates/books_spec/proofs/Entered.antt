@@ -4,9 +4,10 @@ use Rattle.std.specs.List.{filter_map, cons_option, count_by, sum_by}
 use Rattle.std.proofs.lemmas.List.Sums.{sum_by-cons}
 use Rattle.count_spec.proofs.Counts.{count_by-cons}
 use Rattle.count_spec.specs.Windows.{answer, counted}
-use Rattle.count_spec.specs.Boots.{sequences, boot_place, placed, boots}
-use Rattle.count_spec.specs.declared.boot_place.BootPlace.{BootPlace}
-use Rattle.count_spec.specs.declared.boot_place.BootPlace.TheVariants.{Current, Next, Stale}
+use Rattle.count_spec.specs.Boots.{sequences, boot_place, boots}
+use Rattle.count_spec.specs.Stretches.{placed}
+use Rattle.count_spec.specs.declared.stretch_place.StretchPlace.{StretchPlace}
+use Rattle.count_spec.specs.declared.stretch_place.StretchPlace.TheVariants.{Current, Next, Stale}
 use Rattle.books_spec.specs.Items.{SourceId, Sample, Of, Other, Datagram, stamp_of, Item, Got, Malformed, Stream, stream_of, Source}
 use Rattle.books_spec.specs.declared.limits.Limits.{Limits}
 use Rattle.books_spec.specs.Listing.{same_stream, same_id, same_source, among, listed, first_arrivals}
@@ -128,7 +129,7 @@ boots-step l id [] d =
     omega (arith, here, first)
 boots-step l id (current ∷ closed) d = go (boot_place stamp_of l.boot_slack l.datagram_width (current ∷ closed) d)
   where
-    go : (p : BootPlace)
+    go : (p : StretchPlace)
         → sum_by length (map (readings l.datagram_width id) (placed p d (current ∷ closed)))
         ≡ of_count id (samples_at (taken_at l.datagram_width p (current ∷ closed) d.head.sequence) d.samples)
         + sum_by length (map (readings l.datagram_width id) (current ∷ closed))

@@ -6,8 +6,8 @@ use Rattle.std.specs.List.{filter, filter_map, count_by, position_or_len}
 use Rattle.wire_spec.specs.declared.fault.Fault.{Fault}
 use Rattle.count_spec.specs.Windows.{answer, counted}
 use Rattle.count_spec.specs.Boots.{sequences, boot_place, boots, stale_items}
-use Rattle.count_spec.specs.declared.boot_place.BootPlace.{BootPlace}
-use Rattle.count_spec.specs.declared.boot_place.BootPlace.TheVariants as places
+use Rattle.count_spec.specs.declared.stretch_place.StretchPlace.{StretchPlace}
+use Rattle.count_spec.specs.declared.stretch_place.StretchPlace.TheVariants as places
 use Rattle.count_spec.specs.declared.entered.Entered as window
 use Rattle.count_spec.specs.declared.entered.Entered.TheVariants as answers
 use Rattle.books_spec.specs.declared.limits.Limits.{Limits}
@@ -82,7 +82,7 @@ current_marks [] = []
 current_marks (current ∷ closed) = sequences stamp_of current
 
 -- at this place after these boots
-abbrev pub taken_at : ℕ → BootPlace → List (List Datagram) → ℕ → Taken
+abbrev pub taken_at : ℕ → StretchPlace → List (List Datagram) → ℕ → Taken
 taken_at width places.Current boots mark = taken_of (answer width (counted width (current_marks boots)) mark)
 taken_at width places.Next boots mark = First
 taken_at width places.Stale boots mark = Stale

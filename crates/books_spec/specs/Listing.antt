@@ -4,6 +4,7 @@ use Rattle.std.specs.Prelude.{◌≡◌, ℕ, ◌==◌, ◌&&◌, not, Bool, tru
 use Rattle.std.specs.List.{list_any, count_by}
 use Rattle.std.specs.Str.{bytes_eq}
 use Rattle.wire_spec.specs.Heads.{AgentAddress, unknown, ipv4, ipv6}
+use Rattle.count_spec.specs.Windows.{AreDistinctBy}
 use Rattle.books_spec.specs.Items.{SourceId, Stream, Source}
 
 abbrev pub same_flag : Bool → Bool → Bool
@@ -54,5 +55,4 @@ module _ {K : Type 0} (same : K → K → Bool) where
 
   -- no key is there twice
   abbrev pub AreDistinct : List K → Type 0
-  AreDistinct [] = Unit {0}
-  AreDistinct (key ∷ more) = (among more key ≡ false) × AreDistinct more
+  AreDistinct keys = AreDistinctBy among keys

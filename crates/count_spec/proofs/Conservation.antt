@@ -9,7 +9,7 @@ use Rattle.count_spec.specs.Parts.{parts, parts_between, numbers_from, between}
 use Rattle.count_spec.proofs.Integers.{int_le-true, int_le-false}
 use Rattle.count_spec.proofs.Counts.{count_by-split, count_by-and-bound, count_by-none}
 use Rattle.count_spec.proofs.Sets.{has-greatest-bound, has-least-bound, has-greatest, has-least, least-at_most-greatest}
-use Rattle.count_spec.proofs.Stretches.{lacks, lacks-within, ends_fail, count_by-above, count_by-after, count_by-on}
+use Rattle.count_spec.proofs.Between.{lacks, lacks-within, ends_fail, count_by-above, count_by-after, count_by-on}
 
 -- at most the bound, or above it
 int_le-not_lt : (bound n : ℤ) → int_le n bound ≡ not (int_lt bound n)

@@ -10,7 +10,7 @@ use Rattle.count_spec.specs.Parts.{parts_between, numbers_from, between}
 use Rattle.count_spec.proofs.Integers.{int_lt-false, int_eq-other, int_eq-is, int_eq-is_not}
 use Rattle.count_spec.proofs.Sets.{has-head, has-tail}
 use Rattle.count_spec.proofs.Conservation.{parts_between-add_up}
-use Rattle.count_spec.proofs.Stretches.{count_by-on, count_by-after}
+use Rattle.count_spec.proofs.Between.{count_by-on, count_by-after}
 
 -- a stretch has exactly the numbers from its first up to and without its end
 has-numbers_from : (from : ℤ) (n : ℕ) (k : ℤ)

@@ -2,10 +2,11 @@ pub mod Integers
 pub mod Counts
 pub mod Near
 pub mod Sets
-pub mod Stretches
+pub mod Between
 pub mod Conservation
 pub mod Answers
 pub mod Counted
 pub mod Gaps
+pub mod Stretches
 pub mod Restarts
 pub mod Rises

@@ -10,45 +10,16 @@ use Rattle.count_spec.specs.Windows.{near, greatest, least, has, place, answer, 
 use Rattle.count_spec.specs.declared.entered.Place.TheVariants.{Newest, Inside, Least}
 use Rattle.count_spec.specs.declared.entered.Entered.{Entered}
 use Rattle.count_spec.specs.declared.entered.Entered.TheVariants.{First}
-use Rattle.count_spec.specs.Boots.{Stamp, boot_mark, sequences, counts, boot_mark_of, newest_boot_mark, is_near_multiple, boot_place, placed, boots, with_stale, stale_items}
-use Rattle.count_spec.specs.declared.boot_place.BootPlace.{BootPlace}
-use Rattle.count_spec.specs.declared.boot_place.BootPlace.TheVariants.{Current, Next, Stale}
+use Rattle.count_spec.specs.Boots.{Stamp, boot_mark, sequences, counts, boot_mark_of, newest_boot_mark, is_near_multiple, boot_place, boots, stale_items}
 use Rattle.count_spec.proofs.Integers.{HasRemainder, has_remainder, int_eq-same, int_eq-other}
-use Rattle.count_spec.proofs.Counts.{count_by-cons}
+use Rattle.count_spec.proofs.Stretches.{stretches-count}
 use Rattle.count_spec.proofs.Sets.{or-right, has-greatest, has-differs}
 use Rattle.count_spec.proofs.Answers.{number_answer-cases}
-
--- each item that passes the test is counted in one boot, or among the stale
-placed-counts : {X : Type 0} (p : X → Bool) (where_ : BootPlace) (x : X) (bs : List (List X)) (stale : List X)
-    → sum_by (count_by p) (placed where_ x bs) + count_by p (with_stale where_ x stale)
-    ≡ cond (p x) 1 0 + (sum_by (count_by p) bs + count_by p stale)
-placed-counts p Current x [] stale =
-    let a = sum_by-cons (count_by p) (x ∷ []) [] in
-    let b = count_by-cons p x [] in
-    omega (arith, a, b)
-placed-counts p Current x (boot ∷ closed) stale =
-    let a = sum_by-cons (count_by p) (x ∷ boot) closed in
-    let b = sum_by-cons (count_by p) boot closed in
-    let c = count_by-cons p x boot in
-    omega (arith, a, b, c)
-placed-counts p Next x bs stale =
-    let a = sum_by-cons (count_by p) (x ∷ []) bs in
-    let b = count_by-cons p x [] in
-    omega (arith, a, b)
-placed-counts p Stale x bs stale =
-    let a = count_by-cons p x stale in
-    omega (arith, a)
 
 pub boots-count : {X : Type 0} (stamp : X → Stamp) (slack width : ℕ) (p : X → Bool) (items : List X)
     → sum_by (count_by p) (boots stamp slack width items) + count_by p (stale_items stamp slack width items)
     ≡ count_by p items
-boots-count stamp slack width p [] = refl
-boots-count stamp slack width p (x ∷ before) =
-    let here = placed-counts p (boot_place stamp slack width (boots stamp slack width before) x) x
-    (boots stamp slack width before) (stale_items stamp slack width before) in
-    let later = boots-count stamp slack width p before in
-    let whole = count_by-cons p x before in
-    omega (arith, here, later, whole)
+boots-count stamp slack width p items = stretches-count (boot_place stamp slack width) p items
 
 -- a boot mark's difference from that of the same boot is about a multiple of 2^32
 near_multiple-from : (slack : ℕ) (d : ℤ) → is_near_multiple slack d ≡ true
@@ -84,28 +55,6 @@ near_multiple-to slack d k near_k =
 pub near_multiple-iff : (slack : ℕ) (d : ℤ)
     → (is_near_multiple slack d ≡ true) ↔ ((k : ℤ) × (unsigned_abs (d -ℤ (k *ℤ pos 4294967296)) ≤ slack))
 near_multiple-iff slack d = (near_multiple-from slack d, λ h. near_multiple-to slack d h.0 h.1)
-
--- no boot is empty
-one_at_least : (n : ℕ) → nat_le 1 (suc n) ≡ true
-one_at_least n = le-leb 1 (suc n) (omega arith)
-
-placed-some : {X : Type 0} (where_ : BootPlace) (x : X) (bs : List (List X))
-    → list_all (λ (b : List X). nat_le 1 (length b)) bs ≡ true
-    → list_all (λ (b : List X). nat_le 1 (length b)) (placed where_ x bs) ≡ true
-placed-some Current x [] h = refl
-placed-some Current x ([] ∷ closed) h = absurd (false≢true h)
-placed-some Current x ((y ∷ boot) ∷ closed) h =
-    rw (one_at_least (suc (length boot))) (rw (one_at_least (length boot)) at h)
-placed-some Next x bs h = h
-placed-some Stale x bs h = h
-
-pub boots-some : {X : Type 0} (stamp : X → Stamp) (slack width : ℕ) (items : List X)
-    → list_all (λ (b : List X). nat_le 1 (length b)) (boots stamp slack width items) ≡ true
-boots-some stamp slack width [] = refl
-boots-some stamp slack width (x ∷ before) =
-    placed-some (boot_place stamp slack width (boots stamp slack width before) x) x
-    (boots stamp slack width before)
-    (boots-some stamp slack width before)
 
 -- the newest item changes exactly where a number above all before it comes
 newest-step : (mark_at : ℤ → ℤ) (own : ℤ) (width : ℕ) (set : List ℤ) (mark : ℕ)

@@ -5,10 +5,11 @@ use Rattle.std.specs.Prelude.{ℕ, ◌-◌, Bool, false, cond, ◌||◌, nat_le,
 use Rattle.std.specs.Int.{int_rem_euclid}
 use Rattle.std.specs.Ordering.{int_eq}
 use Rattle.count_spec.specs.Windows.{greatest, answer, counted}
+use Rattle.count_spec.specs.Stretches.{stretches, stale_among}
 use Rattle.count_spec.specs.declared.entered.Entered.{Entered}
 use Rattle.count_spec.specs.declared.entered.Entered.TheVariants.{First, Repeat, Late}
-use Rattle.count_spec.specs.declared.boot_place.BootPlace.{BootPlace}
-use Rattle.count_spec.specs.declared.boot_place.BootPlace.TheVariants.{Current, Next, Stale}
+use Rattle.count_spec.specs.declared.stretch_place.StretchPlace.{StretchPlace}
+use Rattle.count_spec.specs.declared.stretch_place.StretchPlace.TheVariants.{Current, Next, Stale}
 
 -- what places a datagram: its arrival and uptime in ms, and its sequence word
 pub record Stamp : Type 0 where
@@ -50,38 +51,19 @@ is_near_multiple slack d =
     nat_le above slack || nat_le (4294967296 - above) slack
 
 -- the place of an item whose boot mark less that of the newest item is d
-abbrev pub place_at : ℕ → ℤ → BootPlace
+abbrev pub place_at : ℕ → ℤ → StretchPlace
 place_at slack d = cond (is_near_multiple slack d) Current (cond (int_lt (pos 0) d) Next Stale)
 
 -- the place of an item after these boots: the first item begins a boot
-abbrev pub boot_place : {X : Type 0} → (X → Stamp) → ℕ → ℕ → List (List X) → X → BootPlace
+abbrev pub boot_place : {X : Type 0} → (X → Stamp) → ℕ → ℕ → List (List X) → X → StretchPlace
 boot_place stamp slack width [] x = Next
 boot_place stamp slack width (current ∷ closed) x =
     place_at slack (boot_mark (stamp x) -ℤ newest_boot_mark stamp width current)
 
--- the boots with one item more, at its place
-abbrev pub placed : {X : Type 0} → BootPlace → X → List (List X) → List (List X)
-placed Current x [] = (x ∷ []) ∷ []
-placed Current x (current ∷ closed) = (x ∷ current) ∷ closed
-placed Next x boots = (x ∷ []) ∷ boots
-placed Stale x boots = boots
-
 -- the boots of these items
 abbrev pub boots : {X : Type 0} → (X → Stamp) → ℕ → ℕ → List X → List (List X)
-boots stamp slack width [] = []
-boots {X} stamp slack width (x ∷ before) =
-    let so_far : List (List X) = boots stamp slack width before in
-    placed (boot_place stamp slack width so_far x) x so_far
-
--- the item, where it is stale, and the stale ones before it
-abbrev pub with_stale : {X : Type 0} → BootPlace → X → List X → List X
-with_stale Current x stale = stale
-with_stale Next x stale = stale
-with_stale Stale x stale = x ∷ stale
+boots stamp slack width items = stretches (boot_place stamp slack width) items
 
 -- the items that are in no boot
 abbrev pub stale_items : {X : Type 0} → (X → Stamp) → ℕ → ℕ → List X → List X
-stale_items stamp slack width [] = []
-stale_items stamp slack width (x ∷ before) =
-    let place : BootPlace = boot_place stamp slack width (boots stamp slack width before) x in
-    with_stale place x (stale_items stamp slack width before)
+stale_items stamp slack width items = stale_among (boot_place stamp slack width) items

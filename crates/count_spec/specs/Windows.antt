@@ -38,10 +38,14 @@ abbrev pub has : List ℤ → ℤ → Bool
 has [] n = false
 has (m ∷ more) n = int_eq m n || has more n
 
+-- none of these is there twice, by this test of whether an item is among others
+abbrev pub AreDistinctBy : {X : Type 0} → (List X → X → Bool) → List X → Type 0
+AreDistinctBy is_among [] = Unit {0}
+AreDistinctBy is_among (x ∷ more) = (is_among more x ≡ false) × AreDistinctBy is_among more
+
 -- no number is there twice
 abbrev pub AreDistinct : List ℤ → Type 0
-AreDistinct [] = Unit {0}
-AreDistinct (n ∷ more) = (has more n ≡ false) × AreDistinct more
+AreDistinct numbers = AreDistinctBy has numbers
 
 -- the place of a number beside those counted before it, of which there is one at least
 abbrev pub place : List ℤ → ℤ → Place

@@ -8,7 +8,9 @@ ghost use Rattle.count_spec.specs.declared.entered.Place.{Place};
 ghost use Rattle.count_spec.specs.declared.entered.Place.TheVariants.{Only, Newest, Inside, Least};
 ghost use Rattle.count_spec.specs.declared.entered.Entered.TheVariants.{First};
 ghost use Rattle.count_spec.specs.Parts.{parts, between};
-ghost use Rattle.count_spec.specs.Boots.{Stamp, boot_mark, sequences, newest_boot_mark, is_near_multiple, boots, stale_items};
+ghost use Rattle.count_spec.specs.Stretches.{stretches, stale_among};
+ghost use Rattle.count_spec.specs.declared.stretch_place.StretchPlace.{StretchPlace};
+ghost use Rattle.count_spec.specs.Boots.{Stamp, boot_mark, sequences, newest_boot_mark, is_near_multiple};
 ghost use Rattle.count_spec.specs.Rise.{NumberedValue, numbers, value_at_greatest, value_at_least, rise_between, rise, first_values, shown, AreSlow};
 
 /// A mark stands for one number: the one from `top - 2^31` up to and without `top + 2^31` that shows it.
@@ -89,17 +91,17 @@ pub fn between_is_exact()
     ensures each_once { (low high : ℤ) → AreDistinct (between low high) }
 {}
 
-/// Each item is in one boot, or stale: of the items that pass any test, each is counted in one of the two.
+/// Each item is in one stretch, or stale: of the items that pass any test, each is counted in one of the two.
 pub fn items_are_conserved<T>()
-    ensures { (stamp : T → Stamp) (slack width : ℕ) (items : List T) (test : T → Bool) →
-        sum_by (count_by test) (boots stamp slack width items)
-        + count_by test (stale_items stamp slack width items) ≡ count_by test items }
+    ensures { (place : List (List T) → T → StretchPlace) (items : List T) (test : T → Bool) →
+        sum_by (count_by test) (stretches place items) + count_by test (stale_among place items)
+        ≡ count_by test items }
 {}
 
-/// No boot is empty.
-pub fn boots_have_items<T>()
-    ensures { (stamp : T → Stamp) (slack width : ℕ) (items : List T) →
-        list_all (λ boot. nat_le 1 (length boot)) (boots stamp slack width items) ≡ true }
+/// No stretch is empty.
+pub fn stretches_have_items<T>()
+    ensures { (place : List (List T) → T → StretchPlace) (items : List T) →
+        list_all (λ stretch. nat_le 1 (length stretch)) (stretches place items) ≡ true }
 {}
 
 /// A difference of boot marks counts as none exactly where it is within the slack of a multiple of 2^32.

@@ -4,10 +4,10 @@
 //! Every list in a contract has the latest first.
 #![tactic(auto)]
 
-mod boot_place;
 mod entered;
 pub mod laws;
 pub mod rows;
+mod stretch_place;
 
-pub use boot_place::BootPlace;
 pub use entered::{Entered, Place};
+pub use stretch_place::StretchPlace;

@@ -4,9 +4,10 @@ use Rattle.std.specs.Prelude.{◌==◌}
 use Rattle.std.proofs.lemmas.Bool.{eqb-true}
 use Rattle.count_spec.specs.Windows.{answer, counted, is_newest}
 use Rattle.count_spec.specs.declared.entered.Entered.{Entered}
-use Rattle.count_spec.specs.Boots.{boot_mark, sequences, newest_boot_mark, place_at, boot_place, placed, with_stale, boots, stale_items}
-use Rattle.count_spec.specs.declared.boot_place.BootPlace.{BootPlace}
-use Rattle.count_spec.specs.declared.boot_place.BootPlace.TheVariants.{Current, Next, Stale}
+use Rattle.count_spec.specs.Boots.{boot_mark, sequences, newest_boot_mark, place_at, boot_place, boots, stale_items}
+use Rattle.count_spec.specs.Stretches.{placed, with_stale}
+use Rattle.count_spec.specs.declared.stretch_place.StretchPlace.{StretchPlace}
+use Rattle.count_spec.specs.declared.stretch_place.StretchPlace.TheVariants.{Current, Next, Stale}
 use Rattle.count_spec.proofs.Restarts.{newest_boot_mark-step}
 use Rattle.source_ledger.specs.Boots as ledger
 use Rattle.books_spec.specs.Items.{Datagram, stamp_of}
@@ -16,12 +17,12 @@ lengths : (bs : List (List Datagram)) → length (map (sequences stamp_of) bs) �
 lengths [] = refl
 lengths (boot ∷ more) = ap suc (lengths more)
 
-abbrev is_current : BootPlace → Bool
+abbrev is_current : StretchPlace → Bool
 is_current Current = true
 is_current Next = false
 is_current Stale = false
 
-abbrev is_next : BootPlace → Bool
+abbrev is_next : StretchPlace → Bool
 is_next Current = false
 is_next Next = true
 is_next Stale = false
@@ -158,7 +159,7 @@ placed-shows slack s t start d (current ∷ closed) stale mark n st =
     go (boot_place stamp_of slack s.ledger.marks.width (current ∷ closed) d)
     (sym (place-is slack s (current ∷ closed) stale d start mark st))
   where
-    go : (p : BootPlace) → place_after slack s start ≡ p
+    go : (p : StretchPlace) → place_after slack s start ≡ p
         → ShowsStream t (placed p d (current ∷ closed)) (with_stale p d stale)
     go Current e = n.current e current closed stale st
     go Next e = n.next e (current ∷ closed) stale st

@@ -1,8 +1,8 @@
 -- What is kept of a stream, and the datagrams for which it stands, the LATEST FIRST.
 use Rattle.std.specs.Prelude.{◌≡◌, ℕ, ◌^◌, ◌≤◌, List, [], ◌∷◌, length, map, ℤ, pos, ◌+ℤ◌, ◌-ℤ◌, ◌≤ℤ◌, cond, ◌==◌}
 use Rattle.count_spec.specs.Boots.{sequences, newest_boot_mark, place_at, boots, stale_items}
-use Rattle.count_spec.specs.declared.boot_place.BootPlace.{BootPlace}
-use Rattle.count_spec.specs.declared.boot_place.BootPlace.TheVariants.{Next}
+use Rattle.count_spec.specs.declared.stretch_place.StretchPlace.{StretchPlace}
+use Rattle.count_spec.specs.declared.stretch_place.StretchPlace.TheVariants.{Next}
 use Rattle.source_ledger.specs.Boots.{BootsState}
 use Rattle.source_ledger.specs.Boots as ledger
 use Rattle.books_spec.specs.Items.{Datagram, stamp_of}
@@ -38,7 +38,7 @@ StandsFor slack s ds =
     ShowsStream s (boots stamp_of slack s.ledger.marks.width ds) (stale_items stamp_of slack s.ledger.marks.width ds)
 
 -- where a datagram with this boot mark belongs, as what is kept tells it
-abbrev pub place_after : ℕ → StreamState → ℤ → BootPlace
+abbrev pub place_after : ℕ → StreamState → ℤ → StretchPlace
 place_after slack s mark = cond (s.ledger.boot == 0) Next (place_at slack (mark -ℤ s.newest))
 
 -- the datagram has this arrival and uptime in ms, and this sequence word

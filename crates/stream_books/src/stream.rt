@@ -9,7 +9,7 @@ ghost use Rattle.stream_books.specs.Streams.{StandsFor, ShowsStream, IsAt, place
 use crate::place::place_of;
 use crate::taken::taken_by;
 use books_spec::{LedgerView, Taken};
-use count_spec::BootPlace;
+use count_spec::StretchPlace;
 use late_window::{Entered, Place};
 use source_ledger::StreamLedger;
 use std::marker::Model;
@@ -68,9 +68,9 @@ impl StreamRecord {
     {
         let start = arrival as i128 - uptime as i128;
         match self.place(slack, start) {
-            BootPlace::Current => self.enter(start, sequence),
-            BootPlace::Next => self.begin(start, sequence),
-            BootPlace::Stale => self.pass(),
+            StretchPlace::Current => self.enter(start, sequence),
+            StretchPlace::Next => self.begin(start, sequence),
+            StretchPlace::Stale => self.pass(),
         }
     }
 
@@ -103,13 +103,13 @@ impl StreamRecord {
     }
 
     // Where a datagram with this boot mark belongs.
-    fn place(&self, slack: u32, start: i128) -> BootPlace
+    fn place(&self, slack: u32, start: i128) -> StretchPlace
         requires from { pos 0 ≤ℤ (start +ℤ pos (2 ^ 32)) }
         requires to { start ≤ℤ pos (2 ^ 64) }
         ensures { result ≡ place_after slack self.now start }
     {
         if self.ledger.boot() == 0 {
-            return BootPlace::Next;
+            return StretchPlace::Next;
         }
         place_of(slack, start - self.newest)
     }
