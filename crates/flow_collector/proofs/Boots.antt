@@ -2,9 +2,10 @@
 use Rattle.std.proofs.Common.{◌≡◌, ℕ, Bool, true, false, cond, List, [], ◌∷◌, length, map, refl, sym, ap, subst, ◌∙◌, true≢false}
 use Rattle.std.specs.List.{filter_map}
 use Rattle.count_spec.specs.Windows.{answer, counted}
-use Rattle.count_spec.specs.Boots.{sequences, boot_place, placed, boots}
-use Rattle.count_spec.specs.declared.boot_place.BootPlace.{BootPlace}
-use Rattle.count_spec.specs.declared.boot_place.BootPlace.TheVariants.{Current, Next, Stale}
+use Rattle.count_spec.specs.Boots.{sequences, boot_place, boots}
+use Rattle.count_spec.specs.Stretches.{placed}
+use Rattle.count_spec.specs.declared.stretch_place.StretchPlace.{StretchPlace}
+use Rattle.count_spec.specs.declared.stretch_place.StretchPlace.TheVariants.{Current, Next, Stale}
 use Rattle.books_spec.specs.Items.{SourceId, Sample, Datagram, stamp_of, Item, Got, stream_of, Source}
 use Rattle.books_spec.specs.declared.reading.SampleReading.{SampleReading}
 use Rattle.books_spec.specs.declared.limits.Limits.{Limits}
@@ -56,7 +57,7 @@ grown-stands s old new (passed e) st =
     let P : List (List SampleReading) → Type 0 = λ bs. StandsFor s bs in
     subst P (sym e) (boot-passes s old st)
 
-placed-grown : (w : ℕ) (id : SourceId) (d : Datagram) (p : BootPlace) (bs : List (List Datagram))
+placed-grown : (w : ℕ) (id : SourceId) (d : Datagram) (p : StretchPlace) (bs : List (List Datagram))
     → Grown (map (readings w id) bs) (map (readings w id) (placed p (with_samples d []) bs))
 placed-grown w id d Current [] = passed (
     ap (λ xs. filter_map (reading_of id) (onto xs []) ∷ [])
@@ -99,7 +100,7 @@ entered-not_first l items d not =
     ∙ ap (λ xs. onto (map (entered_in (stream_of d)) xs) (entered l items))
     (samples-not_first (taken_now l items (Got d)) d.samples not)
 
-placed-not_first : (w : ℕ) (id : SourceId) (d : Datagram) (p : BootPlace) (bs : List (List Datagram))
+placed-not_first : (w : ℕ) (id : SourceId) (d : Datagram) (p : StretchPlace) (bs : List (List Datagram))
     → is_first (taken_at w p bs d.head.sequence) ≡ false
     → map (readings w id) (placed p (with_samples d []) bs) ≡ map (readings w id) (placed p d bs)
 placed-not_first w id d Current [] not =
@@ -138,7 +139,7 @@ source-boots-not_first l items d k there not = go (same_stream k.stream (stream_
 
 -- ---- how many boots there are
 
-length-placed : (p : BootPlace) (d : Datagram) (xs : List Sample) (bs : List (List Datagram))
+length-placed : (p : StretchPlace) (d : Datagram) (xs : List Sample) (bs : List (List Datagram))
     → length (placed p (with_samples d xs) bs) ≡ length (placed p d bs)
 length-placed Current d xs [] = refl
 length-placed Current d xs (current ∷ closed) = refl

@@ -2,9 +2,10 @@
 use Rattle.std.proofs.Common.{◌≡◌, ℕ, Bool, true, false, cond, ◌&&◌, Option, Some, None, List, [], ◌∷◌, ◌++◌, map, refl, sym, ap, ◌∙◌, true≢false}
 use Rattle.std.specs.List.{filter_map, cons_option}
 use Rattle.count_spec.specs.Windows.{answer, counted}
-use Rattle.count_spec.specs.Boots.{sequences, boot_place, placed, boots}
-use Rattle.count_spec.specs.declared.boot_place.BootPlace.{BootPlace}
-use Rattle.count_spec.specs.declared.boot_place.BootPlace.TheVariants.{Current, Next, Stale}
+use Rattle.count_spec.specs.Boots.{sequences, boot_place, boots}
+use Rattle.count_spec.specs.Stretches.{placed}
+use Rattle.count_spec.specs.declared.stretch_place.StretchPlace.{StretchPlace}
+use Rattle.count_spec.specs.declared.stretch_place.StretchPlace.TheVariants.{Current, Next, Stale}
 use Rattle.books_spec.specs.Items.{SourceId, Sample, Of, Other, Datagram, stamp_of, Item, Got, stream_of, Source}
 use Rattle.books_spec.specs.declared.reading.SampleReading.{SampleReading}
 use Rattle.books_spec.specs.declared.limits.Limits.{Limits}
@@ -82,7 +83,7 @@ stale-first A e = absurd (true≢false (ap is_stale e))
     is_stale takes.Stale = true
     is_stale _ = false
 
-boots-one_more : (w : ℕ) (id : SourceId) (d : Datagram) (x : Sample) (p : BootPlace) (bs : List (List Datagram))
+boots-one_more : (w : ℕ) (id : SourceId) (d : Datagram) (x : Sample) (p : StretchPlace) (bs : List (List Datagram))
     → taken_at w p bs d.head.sequence ≡ First
     → map (readings w id) (placed p (with_sample d x) bs)
     ≡ with_option (reading_of id x) (map (readings w id) (placed p d bs))

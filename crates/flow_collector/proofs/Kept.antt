@@ -4,9 +4,10 @@ use Rattle.std.specs.Option.{is_some}
 use Rattle.std.specs.List.{count_by}
 use Rattle.std.proofs.lemmas.Bool.{leb-true}
 use Rattle.std.proofs.lemmas.List.Sums.{count_by-le-length}
-use Rattle.count_spec.specs.Boots.{boot_place, placed, boots}
-use Rattle.count_spec.specs.declared.boot_place.BootPlace.{BootPlace}
-use Rattle.count_spec.specs.declared.boot_place.BootPlace.TheVariants.{Current, Next, Stale}
+use Rattle.count_spec.specs.Boots.{boot_place, boots}
+use Rattle.count_spec.specs.Stretches.{placed}
+use Rattle.count_spec.specs.declared.stretch_place.StretchPlace.{StretchPlace}
+use Rattle.count_spec.specs.declared.stretch_place.StretchPlace.TheVariants.{Current, Next, Stale}
 use Rattle.books_spec.specs.Items.{SourceId, Datagram, stamp_of, Item, Got, Malformed, stream_of, Source}
 use Rattle.books_spec.specs.declared.reading.SampleReading.{SampleReading}
 use Rattle.books_spec.specs.Listing.{same_stream, same_source, among, listed, unlisted}
@@ -110,7 +111,7 @@ some-boot [] none = absurd (omega (arith, none))
 some-boot (current ∷ closed) some =
     record { current = current; closed = closed; boots_are = refl; number_is = omega arith }
 
-placed-some : (w : ℕ) (p : BootPlace) (d : Datagram) (bs : List (List Datagram)) → taken_at w p bs d.head.sequence ≡ First
+placed-some : (w : ℕ) (p : StretchPlace) (d : Datagram) (bs : List (List Datagram)) → taken_at w p bs d.head.sequence ≡ First
     → 1 ≤ length (placed p d bs)
 placed-some w Current d [] first = omega arith
 placed-some w Current d (current ∷ closed) first = omega arith

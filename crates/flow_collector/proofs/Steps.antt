@@ -6,9 +6,10 @@ use Rattle.std.proofs.lemmas.List.Folds.{list_any-append}
 use Rattle.count_spec.specs.Windows.{answer, counted}
 use Rattle.count_spec.specs.declared.entered.Entered.{Entered as Answer}
 use Rattle.count_spec.specs.declared.entered.Entered.TheVariants as answers
-use Rattle.count_spec.specs.Boots.{boot_place, placed, with_stale, boots, stale_items}
-use Rattle.count_spec.specs.declared.boot_place.BootPlace.{BootPlace}
-use Rattle.count_spec.specs.declared.boot_place.BootPlace.TheVariants.{Current, Next, Stale}
+use Rattle.count_spec.specs.Boots.{boot_place, boots, stale_items}
+use Rattle.count_spec.specs.Stretches.{placed, with_stale}
+use Rattle.count_spec.specs.declared.stretch_place.StretchPlace.{StretchPlace}
+use Rattle.count_spec.specs.declared.stretch_place.StretchPlace.TheVariants.{Current, Next, Stale}
 use Rattle.count_spec.proofs.Counts.{count_by-cons}
 use Rattle.wire_spec.specs.declared.fault.Fault.{Fault}
 use Rattle.books_spec.specs.Items.{Sample, Datagram, stamp_of, Item, Got, Malformed, Stream, stream_of}
@@ -38,10 +39,10 @@ shows-same slack s d xs ds st =
     let w : ℕ = s.ledger.marks.width in
     let bs : List (List Datagram) = boots stamp_of slack w ds in
     let stale : List Datagram = stale_items stamp_of slack w ds in
-    let P : BootPlace → Type 0 = λ p. ShowsStream s (placed p (with_samples d xs) bs) (with_stale p (with_samples d xs) stale) in
+    let P : StretchPlace → Type 0 = λ p. ShowsStream s (placed p (with_samples d xs) bs) (with_stale p (with_samples d xs) stale) in
     subst P (sym (place-same slack w bs d xs)) (go (boot_place stamp_of slack w bs d) bs stale st)
   where
-    go : (p : BootPlace) (bs : List (List Datagram)) (stale : List Datagram)
+    go : (p : StretchPlace) (bs : List (List Datagram)) (stale : List Datagram)
         → ShowsStream s (placed p d bs) (with_stale p d stale)
         → ShowsStream s (placed p (with_samples d xs) bs) (with_stale p (with_samples d xs) stale)
     go Current [] stale was = record {
@@ -150,7 +151,7 @@ answer-listed (answers.First place n) = refl
 answer-listed answers.Repeat = refl
 answer-listed answers.Late = refl
 
-pub place-listed : (w : ℕ) (p : BootPlace) (bs : List (List Datagram)) (sequence : ℕ) → is_unlisted (taken_at w p bs sequence) ≡ false
+pub place-listed : (w : ℕ) (p : StretchPlace) (bs : List (List Datagram)) (sequence : ℕ) → is_unlisted (taken_at w p bs sequence) ≡ false
 place-listed w Current bs sequence = answer-listed (answer w (counted w (current_marks bs)) sequence)
 place-listed w Next bs sequence = refl
 place-listed w Stale bs sequence = refl
