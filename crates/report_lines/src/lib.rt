@@ -9,6 +9,3 @@ mod stream;
 pub use ending::{put_end, put_first_fault, put_total};
 pub use source::put_source;
 pub use stream::put_stream;
-
-#[cfg(test)]
-mod tests;

@@ -16,6 +16,4 @@ pub use entry::{put_entry, show_entry};
 pub use laws::{shown_as_the_grammar_says, worked_entries, worked_records};
 
 #[cfg(test)]
-mod record_tests;
-#[cfg(test)]
 mod tests;
