@@ -4,7 +4,6 @@
 
 mod address;
 mod check;
-mod failed;
 mod format;
 mod frames;
 mod heads;
@@ -16,7 +15,6 @@ mod source;
 
 pub use address::Address;
 pub use check::{AnyBody, BodyCheck};
-pub use failed::Failed;
 pub use format::{Format, Frame};
 pub use frames::Frames;
 pub use heads::{CountersHead, FlowHead, Form};
@@ -25,4 +23,4 @@ pub use mac::Mac;
 pub use part_laws::parts_within_ranges;
 pub use port::Port;
 pub use source::SourceId;
-pub use wire_spec::{Fault, FaultKind};
+pub use wire_spec::{Failed, Fault, FaultKind};
