@@ -4,7 +4,6 @@
 
 mod address;
 mod check;
-mod failed;
 mod format;
 mod frames;
 mod heads;
@@ -18,7 +17,6 @@ mod value_laws;
 
 pub use address::Address;
 pub use check::{AnyBody, BodyCheck};
-pub use failed::Failed;
 pub use format::{Format, Frame};
 pub use frames::Frames;
 pub use heads::{CountersHead, FlowHead, Form};
@@ -29,4 +27,4 @@ pub use port::Port;
 pub use record_body::RecordBody;
 pub use source::SourceId;
 pub use value_laws::values_have_their_parts;
-pub use wire_spec::{Fault, FaultKind};
+pub use wire_spec::{Failed, Fault, FaultKind};

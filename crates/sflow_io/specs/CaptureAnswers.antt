@@ -21,6 +21,10 @@ pub record ReaderState : Type 0 where
   pub stage : Stage
   pub held : List ℕ
 
+-- it has read nothing
+abbrev pub IsFresh : ReaderState → Type 0
+IsFresh reader = reader ≡ record { stage = stage.Start; held = [] }
+
 -- what is left to read, where the source tells it: the bytes that are held of it, and then what it has left
 abbrev pub unread : List ℕ → Seen → Option (List ℕ)
 unread held source = (with_held held source).told

@@ -6,7 +6,7 @@ ghost use Rattle.wire_spec.specs.Captures.{Entry};
 ghost use Rattle.sflow_io.specs.Seen.{Seen};
 ghost use Rattle.sflow_io.specs.ReadFaults.{StopsAfter};
 ghost use Rattle.sflow_io.specs.CaptureSteps.{HasGiven, with_answer};
-ghost use Rattle.sflow_io.specs.CaptureAnswers.{Answer, Answers, AnswersStart, EndsSource, HasEnded, HasReadCause, LeadsOn, IsPlaced, IsShortEntry, KeepsLimits, ReaderState, length_with_padding, stage_after, unread};
+ghost use Rattle.sflow_io.specs.CaptureAnswers.{Answer, Answers, AnswersStart, EndsSource, HasEnded, HasReadCause, IsFresh, LeadsOn, IsPlaced, IsShortEntry, KeepsLimits, ReaderState, length_with_padding, stage_after, unread};
 
 use crate::capture_header::read_header;
 use crate::entry_reader::{read_end, read_entry};
@@ -14,9 +14,7 @@ use crate::read_ahead::ReadAhead;
 use crate::{Memory, Next, ReadRefusal, Source, Stage};
 use std::alloc::Global;
 use std::marker::Model;
-
-// The most entries that a reader gives.
-const MOST: u64 = 1 << 48;
+use wire_spec::MAX_ENTRIES;
 
 /// A reader of a capture, entry by entry. It reads its source at least 64 KiB at a time.
 #[derive(Drop)]
@@ -38,7 +36,7 @@ impl Model for CaptureReader {
 impl CaptureReader {
     /// A reader before its first byte. It takes memory for the bytes that it reads ahead.
     pub fn open(alloc: Global) -> Result<CaptureReader, Memory>
-        ensures opened { IfOk result (λ reader. reader ≡ record { stage = Start; held = [] }) }
+        ensures opened { IfOk result (λ reader. IsFresh reader) }
 
         // It has given nothing of any bytes.
         ensures begins { IfOk result (λ reader. (bytes : List ℕ) (source : Seen) → source.told ≡ Some bytes
@@ -114,7 +112,7 @@ fn read_from<S: Source>(
     match stage {
         Stage::Start => read_first(ahead, source, room),
         Stage::Within { count, offset } => {
-            if count < MOST {
+            if count < MAX_ENTRIES {
                 read_entry(ahead, source, room, offset)
             } else {
                 read_end(ahead, source)

@@ -21,14 +21,13 @@ mod source;
 pub use capture::{Memory, Next, ReadRefusal, Stage, WriteFault};
 pub use capture_reader::CaptureReader;
 pub use capture_writer::CaptureWriter;
-pub use data_format::Failed;
 pub use input::InputSource;
 pub use memory_sink::MemorySink;
 pub use memory_source::MemorySource;
 pub use output::OutputSink;
 pub use sink::{Sink, write_all};
 pub use source::{Source, read_most};
-pub use wire_spec::InputKind;
+pub use wire_spec::{Failed, InputKind};
 
 #[cfg(test)]
 mod tests;

@@ -18,4 +18,3 @@ pub mod Captures
 pub mod CaptureReading
 pub mod CaptureRows
 pub mod Texts
-pub mod Report

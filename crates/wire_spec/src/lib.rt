@@ -5,9 +5,11 @@
 
 mod captures;
 mod examples;
+mod failed;
 mod fault;
 mod grammar_laws;
 mod input_kind;
+mod limits;
 mod pad;
 mod spelling_laws;
 
@@ -16,12 +18,14 @@ pub use captures::{
     reading_is_the_capture,
 };
 pub use examples::{datagrams_with_samples, datagrams_without_samples};
+pub use failed::Failed;
 pub use fault::{Fault, FaultKind};
 pub use grammar_laws::{
     faults_stand_within_the_bytes, one_head_of_a_datagram, one_reading_of_a_datagram,
     one_reading_of_a_front, one_reading_of_a_whole, reading_finds_what_is_there,
 };
 pub use input_kind::InputKind;
+pub use limits::{MAX_DATAGRAM, MAX_ENTRIES};
 pub use pad::Pad;
 pub use spelling_laws::{
     free_padding_takes_zero_padding, lawful_values_are_spelled, one_spelling_with_zero_padding,
