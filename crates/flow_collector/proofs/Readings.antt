@@ -9,6 +9,7 @@ use Rattle.data_format.specs.declared.source.SourceId.{SourceId}
 use Rattle.data_format.specs.Compact.{source_word, source_of, IsCompactSource}
 use Rattle.data_format.specs.Trees.{frame_tree, frame_trees}
 use Rattle.data_format.specs.Views.{FrameView}
+use Rattle.data_format.proofs.Values.{source_of-word, address_in-tree}
 use Rattle.datagram_core.specs.Heads.{DatagramView}
 use Rattle.datagram_core.specs.SampleHeads.{IsFlowIn, AreCountersIn, IsHeadOf}
 use Rattle.datagram_core.specs.Tables.{samples_read}
@@ -16,15 +17,8 @@ use Rattle.datagram_core.specs.Trees.{tree_of}
 use Rattle.datagram_core.specs.declared.sample_head.SampleHead.{SampleHead}
 use Rattle.datagram_core.specs.declared.sample_head.SampleHead.TheVariants as heads
 use Rattle.books_spec.specs.Items.{Sample, Other, Datagram, flow_sample, counters_sample}
-use Rattle.flow_collector.specs.Items.{sample_in, samples_in, address_in, datagram_in}
+use Rattle.flow_collector.specs.Items.{sample_in, samples_in, datagram_in}
 use Rattle.flow_collector.specs.Shown.{flow_of, counters_of}
-
-source_of-word : (s : SourceId) → IsCompactSource s → source_of (source_word s) ≡ s
-source_of-word s fits =
-    let top : (s.class * 2 ^ 24 + s.index) / 2 ^ 24 ≡ s.class = omega (arith, fits.1) in
-    let low : (s.class * 2 ^ 24 + s.index) % 2 ^ 24 ≡ s.index = omega (arith, fits.1) in
-    let A : ℕ → ℕ → SourceId = λ c i. record { class = c; index = i } in
-    ap (λ c. A c ((s.class * 2 ^ 24 + s.index) % 2 ^ 24)) top ∙ ap (A s.class) low
 
 -- what a head shows stands in the value of its frame
 
@@ -65,11 +59,6 @@ other-shown x f is of_frame =
     let P : SampleHead → Type 0 = IsHeadOf f in
     let this : P heads.Other = subst P is of_frame in
     ap sample_in (sym this.value)
-
-address_in-tree : (a : AgentAddress) → address_in (address_tree a) ≡ a
-address_in-tree unknown = refl
-address_in-tree (ipv4 bytes) = refl
-address_in-tree (ipv6 bytes) = refl
 
 -- the datagram of a value that was read
 pub datagram-in-tree : (arrival : ℕ) (d : DatagramView) → datagram_in arrival (tree_of d)

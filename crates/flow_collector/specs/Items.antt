@@ -7,33 +7,9 @@ use Rattle.wire_spec.specs.Heads.{AgentAddress, unknown, ipv4, ipv6, Head}
 use Rattle.wire_spec.specs.Whole.{whole_reading}
 use Rattle.data_format.specs.declared.source.SourceId as ids
 use Rattle.data_format.specs.Compact.{source_of}
+use Rattle.data_format.specs.Values.{members_of, number_in, behind_version, head_in, samples_behind}
 use Rattle.datagram_core.specs.Tables.{datagram_read}
 use Rattle.books_spec.specs.Items.{Sample, Other, flow_sample, counters_sample, Datagram, Item, Got, Malformed}
-
--- ---- members and values
-
--- the members of a structure
-abbrev pub members_of : Tree → Trees
-members_of (structure members) = members
-members_of _ = none
-
--- the values of an array
-abbrev pub values_of : Tree → Trees
-values_of (array values) = values
-values_of _ = none
-
--- the member in this place, counted from 0
-abbrev pub member : ℕ → Trees → Tree
-member k none = structure none
-member zero (t & more) = t
-member (suc k) (t & more) = member k more
-
-abbrev pub number_of : Tree → ℕ
-number_of (word n) = n
-number_of _ = 0
-
-abbrev pub number_in : ℕ → Trees → ℕ
-number_in k members = number_of (member k members)
 
 -- ---- samples
 
@@ -85,30 +61,12 @@ samples_in (t & more) = sample_in t ∷ samples_in more
 
 -- ---- datagrams
 
--- 1 four bytes of IPv4, 2 sixteen bytes of IPv6, else none
-abbrev pub address_in : Tree → AgentAddress
-address_in (union k (fixed bytes)) = if k == 1 then ipv4 bytes else ipv6 bytes
-address_in _ = unknown
-
-abbrev pub head_in : Trees → Head
-head_in members = record {
-  agent = address_in (member 0 members);
-  sub_agent = number_in 1 members;
-  sequence = number_in 2 members;
-  uptime = number_in 3 members;
-}
-
--- the members behind the version word
-abbrev pub behind_version : Tree → Trees
-behind_version (union version body) = members_of body
-behind_version _ = none
-
 -- the datagram of this value, which arrived at this time in ms
 abbrev pub datagram_in : ℕ → Tree → Datagram
 datagram_in arrival t = record {
   arrival = arrival;
   head = head_in (behind_version t);
-  samples = samples_in (values_of (member 4 (behind_version t)));
+  samples = samples_in (samples_behind (behind_version t));
 }
 
 -- ---- entries

@@ -13,12 +13,12 @@ use Rattle.datagram_core.specs.declared.records.Record.TheVariants as records
 use Rattle.datagram_core.specs.declared.records.RecordKind.{RecordKind}
 use Rattle.datagram_core.specs.declared.records.RecordKind.TheVariants.{Flow, Counters, Unknown}
 use Rattle.show_lines.specs.CounterLines.{interface_front, dot3_front, vlan_front}
-use Rattle.show_lines.specs.Fields.{members_of}
+use Rattle.data_format.specs.Values.{members_of}
 use Rattle.show_lines.specs.FlowLines.{header_front, ethernet_front, ipv4_front, ipv6_front, switch_front, router_front, gateway_front}
 use Rattle.show_lines.specs.Lines.{frame_front}
 use Rattle.show_lines.specs.Shown.{record_front}
 use Rattle.show_lines.proofs.Rows.{frame_row}
-use Rattle.show_lines.proofs.Places.{format_of-word}
+use Rattle.data_format.proofs.Values.{format_of-word}
 
 -- the line of a record by its variant
 abbrev pub front_of : Record → List ℕ

@@ -15,6 +15,7 @@ use Rattle.data_format.specs.Compact.{source_word, source_of, IsCompactSource, p
 use Rattle.data_format.specs.Samples.{SampleView, flow_trees, IsFlowHead, flow_tree, counters_trees, IsCountersHead, counters_tree}
 use Rattle.data_format.specs.Trees.{frame_tree, trees_of, frame_trees}
 use Rattle.data_format.specs.Views.{IsFormat, FrameView, format_word}
+use Rattle.data_format.proofs.Values.{format_of-word, address_in-tree, flow_head_in-trees, counters_head_in-trees, flow_records_in-trees, counter_records_in-trees, count_of-trees}
 use Rattle.datagram_core.specs.Heads.{DatagramView}
 use Rattle.datagram_core.specs.Records.{RecordsView, IsRecordOf, records_of, record_tree, table_of}
 use Rattle.datagram_core.specs.Samples.{IsItself, IsSampleOf, sample_tree}
@@ -24,71 +25,12 @@ use Rattle.datagram_core.specs.declared.records.Record.{Record}
 use Rattle.datagram_core.specs.declared.records.RecordKind.{RecordKind}
 use Rattle.datagram_core.specs.declared.sample.Sample.{Sample}
 use Rattle.datagram_core.specs.declared.sample.Sample.TheVariants as samples
-use Rattle.show_lines.specs.Fields.{format_of, members_of, address_in, flow_head_in, counters_head_in, flow_records_in, counter_records_in}
+use Rattle.data_format.specs.Values.{format_of, members_of, address_in, flow_head_in, counters_head_in, flow_records_in, counter_records_in}
 use Rattle.show_lines.specs.Lines.{datagram_line, flow_front, counters_front, frame_front}
 use Rattle.show_lines.specs.Joined.{texts_of}
 use Rattle.show_lines.specs.Shown.{record_text, flow_text, counters_text, sample_front, sample_records, sample_text, datagram_text}
 
--- ---- numbers of one word
-
-pub format_of-word : (f : Format) → IsFormat f → format_of (format_word f) ≡ f
-format_of-word f fits =
-    let top : (f.enterprise * 4096 + f.number) / 4096 ≡ f.enterprise = omega (arith, fits.1) in
-    let low : (f.enterprise * 4096 + f.number) % 4096 ≡ f.number = omega (arith, fits.1) in
-    let A : ℕ → ℕ → Format = λ e n. record { enterprise = e; number = n } in
-    ap (λ e. A e ((f.enterprise * 4096 + f.number) % 4096)) top ∙ ap (A f.enterprise) low
-
-pub source_of-word : (s : SourceId) → IsCompactSource s → source_of (source_word s) ≡ s
-source_of-word s fits =
-    let top : (s.class * 2 ^ 24 + s.index) / 2 ^ 24 ≡ s.class = omega (arith, fits.1) in
-    let low : (s.class * 2 ^ 24 + s.index) % 2 ^ 24 ≡ s.index = omega (arith, fits.1) in
-    let A : ℕ → ℕ → SourceId = λ c i. record { class = c; index = i } in
-    ap (λ c. A c ((s.class * 2 ^ 24 + s.index) % 2 ^ 24)) top ∙ ap (A s.class) low
-
-pub port_of-word : (p : Port) → IsCompactPort p → port_of (port_word p) ≡ p
-port_of-word p fits =
-    let top : (p.form * 2 ^ 30 + p.value) / 2 ^ 30 ≡ p.form = omega (arith, fits.1) in
-    let low : (p.form * 2 ^ 30 + p.value) % 2 ^ 30 ≡ p.value = omega (arith, fits.1) in
-    let A : ℕ → ℕ → Port = λ f v. record { form = f; value = v } in
-    ap (λ f. A f ((p.form * 2 ^ 30 + p.value) % 2 ^ 30)) top ∙ ap (A p.form) low
-
--- ---- heads
-
-pub address_in-tree : (a : AgentAddress) → address_in (address_tree a) ≡ a
-address_in-tree unknown = refl
-address_in-tree (ipv4 bytes) = refl
-address_in-tree (ipv6 bytes) = refl
-
-pub flow_head_in-trees : (form : Form) (h : FlowHead) (t : Tree) → IsFlowHead form h
-    → flow_head_in form (with_last_tree (flow_trees form h) t) ≡ h
-flow_head_in-trees Compact h t (source, input, output) =
-    let A : SourceId → Port → Port → FlowHead = λ s i o. record h { source = s; input = i; output = o } in
-    ap (λ s. A s (port_of (port_word h.input)) (port_of (port_word h.output))) (source_of-word h.source source)
-    ∙ ap (λ i. A h.source i (port_of (port_word h.output))) (port_of-word h.input input)
-    ∙ ap (A h.source h.input) (port_of-word h.output output)
-flow_head_in-trees Expanded h t any = refl
-
-pub counters_head_in-trees : (form : Form) (h : CountersHead) (t : Tree) → IsCountersHead form h
-    → counters_head_in form (with_last_tree (counters_trees form h) t) ≡ h
-counters_head_in-trees Compact h t source =
-    ap (λ (s : SourceId). record h { source = s }) (source_of-word h.source source)
-counters_head_in-trees Expanded h t any = refl
-
 -- ---- records
-
-pub count_of-trees : (view : FrameView → Tree) (frames : List FrameView) → count_of (trees_of view frames) ≡ length frames
-count_of-trees view [] = refl
-count_of-trees view (f ∷ fs) = ap suc (count_of-trees view fs)
-
-flow_records : (form : Form) (h : FlowHead) (ts : Trees)
-    → flow_records_in form (with_last_tree (flow_trees form h) (Tree.array ts)) ≡ ts
-flow_records Compact h ts = refl
-flow_records Expanded h ts = refl
-
-counter_records : (form : Form) (h : CountersHead) (ts : Trees)
-    → counter_records_in form (with_last_tree (counters_trees form h) (Tree.array ts)) ≡ ts
-counter_records Compact h ts = refl
-counter_records Expanded h ts = refl
 
 -- the line of a record, whose kind is also this
 pub record_line : (kind other : RecordKind) (f : FrameView) (r : Record) → kind ≡ other → IsRecordOf kind f r
@@ -107,7 +49,7 @@ flow_same name form T s h n head count given =
     let fits : IsFlowHead form s.head = subst (IsFlowHead form) head given in
     ap (λ x. flow_front name x n) (head ∙ sym (flow_head_in-trees form s.head (Tree.array ts) fits))
     ∙ ap (flow_front name (flow_head_in form (with_last_tree (flow_trees form s.head) (Tree.array ts))))
-    (count ∙ sym (count_of-trees (frame_tree T) s.frames) ∙ ap count_of (sym (flow_records form s.head ts)))
+    (count ∙ sym (count_of-trees (frame_tree T) s.frames) ∙ ap count_of (sym (flow_records_in-trees form s.head ts)))
 
 counters_same : (name : List ℕ) (form : Form) (T : Table) (s : SampleView CountersHead) (h : CountersHead) (n : ℕ)
     → h ≡ s.head → n ≡ length s.frames → IsCountersHead form h
@@ -117,7 +59,7 @@ counters_same name form T s h n head count given =
     let fits : IsCountersHead form s.head = subst (IsCountersHead form) head given in
     ap (λ x. counters_front name x n) (head ∙ sym (counters_head_in-trees form s.head (Tree.array ts) fits))
     ∙ ap (counters_front name (counters_head_in form (with_last_tree (counters_trees form s.head) (Tree.array ts))))
-    (count ∙ sym (count_of-trees (frame_tree T) s.frames) ∙ ap count_of (sym (counter_records form s.head ts)))
+    (count ∙ sym (count_of-trees (frame_tree T) s.frames) ∙ ap count_of (sym (counter_records_in-trees form s.head ts)))
 
 pub front-flow : (s : SampleView FlowHead) (x : Sample) (h : FlowHead) (n : ℕ) → x ≡ samples.Flow s
     → h ≡ s.head → n ≡ length s.frames → IsFlowHead Compact h

@@ -4,7 +4,7 @@ use Rattle.std.specs.List.{concat}
 use Rattle.wire_spec.specs.Shapes.{Trees}
 use Rattle.wire_spec.specs.Texts.{address_text, dotted, grouped}
 use Rattle.text_lines.specs.Bytes.{hex_or_dash, mac_text}
-use Rattle.show_lines.specs.Fields.{values_of, member, number_in, bytes_in, address_in}
+use Rattle.data_format.specs.Values.{values_of, member, number_in, bytes_in, address_in}
 use Rattle.show_lines.specs.Joined.{list_text, path_text}
 
 -- protocol, frame length, stripped, header

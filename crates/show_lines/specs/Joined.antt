@@ -1,7 +1,7 @@
 -- The texts of several values.
 use Rattle.std.specs.Prelude.{ℕ, ◌==◌, List, [], ◌++◌, codes, decimal, if◌then◌else◌}
 use Rattle.wire_spec.specs.Shapes.{array, union, Tree, Trees, none, ◌&◌}
-use Rattle.show_lines.specs.Fields.{number_of}
+use Rattle.data_format.specs.Values.{number_of}
 
 -- one after the other
 abbrev pub texts_of : (Tree → List ℕ) → Trees → List ℕ

@@ -1,5 +1,4 @@
 pub mod CounterLines
-pub mod Fields
 pub mod FlowLines
 pub mod Joined
 pub mod Lines

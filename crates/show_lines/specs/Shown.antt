@@ -11,7 +11,7 @@ use Rattle.data_format.specs.declared.heads.Form.TheVariants.{Compact, Expanded}
 use Rattle.datagram_core.specs.Tables.{datagram_read}
 use Rattle.datagram_core.specs.declared.records.RecordKind.{RecordKind}
 use Rattle.datagram_core.specs.declared.records.RecordKind.TheVariants.{Flow, Counters, Unknown}
-use Rattle.show_lines.specs.Fields.{format_of, members_of, values_of, member, head_in, flow_head_in, counters_head_in, flow_records_in, counter_records_in, tail_in}
+use Rattle.data_format.specs.Values.{format_of, members_of, values_of, member, head_in, flow_head_in, counters_head_in, flow_records_in, counter_records_in, tail_in}
 use Rattle.show_lines.specs.CounterLines.{interface_front, dot3_front, vlan_front}
 use Rattle.show_lines.specs.FlowLines.{header_front, ethernet_front, ipv4_front, ipv6_front, switch_front, router_front, gateway_front}
 use Rattle.show_lines.specs.Joined.{texts_of}

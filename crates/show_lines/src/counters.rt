@@ -3,7 +3,7 @@ ghost use Rattle.std.specs.Prelude.{◌++◌, codes, decimal, flat_map};
 ghost use Rattle.rec_counters.specs.Contents.{interface_content, ethernet_content, vlan_content};
 ghost use Rattle.text_lines.specs.Pages.{Prints};
 ghost use Rattle.show_lines.specs.CounterLines.{interface_front, dot3_front, vlan_front};
-ghost use Rattle.show_lines.specs.Fields.{members_of};
+ghost use Rattle.data_format.specs.Values.{members_of};
 
 use crate::parts::{put_row, put_text};
 use rec_counters::{EthernetCounters, IfCounters, VlanCounters};

@@ -2,7 +2,7 @@
 ghost use Rattle.rec_extended.specs.Contents.{switch_content};
 ghost use Rattle.rec_extended.specs.RouteContents.{router_content, gateway_content};
 ghost use Rattle.text_lines.specs.Pages.{Prints};
-ghost use Rattle.show_lines.specs.Fields.{members_of};
+ghost use Rattle.data_format.specs.Values.{members_of};
 ghost use Rattle.show_lines.specs.FlowLines.{switch_front, router_front, route_text, gateway_front};
 
 use crate::parts::{put_list, put_text};

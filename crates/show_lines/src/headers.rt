@@ -1,7 +1,7 @@
 // The lines of the records of a sampled packet's headers, up to the tail.
 ghost use Rattle.rec_headers.specs.Contents.{raw_content, ethernet_content, ipv4_content, ipv6_content};
 ghost use Rattle.text_lines.specs.Pages.{Prints};
-ghost use Rattle.show_lines.specs.Fields.{members_of};
+ghost use Rattle.data_format.specs.Values.{members_of};
 ghost use Rattle.show_lines.specs.FlowLines.{header_front, ethernet_front, ipv4_front, ipv6_front};
 
 use data_format::Address;

@@ -5,7 +5,7 @@ ghost use Rattle.data_format.specs.Views.{FrameView};
 ghost use Rattle.datagram_core.specs.Records.{IsRecordOf, record_tree, table_of};
 ghost use Rattle.datagram_core.specs.declared.records.RecordKind.{RecordKind};
 ghost use Rattle.text_lines.specs.Pages.{Prints};
-ghost use Rattle.show_lines.specs.Fields.{tail_in};
+ghost use Rattle.data_format.specs.Values.{tail_in};
 ghost use Rattle.show_lines.specs.Joined.{texts_of};
 ghost use Rattle.show_lines.specs.Shown.{record_text, record_front};
 

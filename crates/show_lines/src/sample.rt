@@ -5,7 +5,7 @@ ghost use Rattle.data_format.specs.Views.{FrameView};
 ghost use Rattle.datagram_core.specs.Samples.{IsSampleOf, HasRecords, sample_tree};
 ghost use Rattle.datagram_core.specs.Tables.{samples_read};
 ghost use Rattle.text_lines.specs.Pages.{Prints};
-ghost use Rattle.show_lines.specs.Fields.{tail_in};
+ghost use Rattle.data_format.specs.Values.{tail_in};
 ghost use Rattle.show_lines.specs.Joined.{texts_of};
 ghost use Rattle.show_lines.specs.Shown.{sample_text, sample_front};
 

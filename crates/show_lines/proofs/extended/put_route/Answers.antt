@@ -1,6 +1,6 @@
 use Rattle.data_format.specs.Addresses.{address_of}
 use Rattle.show_lines.specs.FlowLines.{route_text}
-use Rattle.show_lines.proofs.Places.{address_in-tree}
+use Rattle.data_format.proofs.Values.{address_in-tree}
 use Rattle.show_lines.proofs.extended.put_route.Goals as goal
 
 pub returns : goal.returns

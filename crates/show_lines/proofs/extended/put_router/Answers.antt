@@ -1,6 +1,6 @@
 use Rattle.data_format.specs.Addresses.{address_of}
 use Rattle.show_lines.specs.FlowLines.{router_front}
-use Rattle.show_lines.proofs.Places.{address_in-tree}
+use Rattle.data_format.proofs.Values.{address_in-tree}
 use Rattle.show_lines.proofs.extended.put_router.Goals as goal
 
 pub returns : goal.returns
