@@ -1,6 +1,6 @@
 -- The command that words give, and what they ask for, are the same.
 use Rattle.std.proofs.Common.{◌≡◌, ◌∙◌, Bool, true, false, List, [], ◌∷◌, Option, Some, None, refl, ap, ap₂, sym, if◌then◌else◌}
-use Rattle.std.specs.Prelude.{option_and_then}
+use Rattle.std.specs.Prelude.{find, option_and_then}
 use Rattle.std.specs.Str.{bytes_eq}
 use Rattle.std.proofs.lemmas.Option.{same_Some}
 use Rattle.std.proofs.lemmas.Slice.Eq.{bytes_eq-Decides}
@@ -10,7 +10,7 @@ use Rattle.command_words.specs.declared.command.Command.{Command}
 use Rattle.command_words.specs.Rules.{Text}
 use Rattle.command_words.specs.Pieces.{Piece, are_rules, spelling}
 use Rattle.command_words.specs.Reading.{lawful_pieces}
-use Rattle.command_words.specs.Commands.{Asks, command_named, command_of, command_with, name_of, rules_of, word_of}
+use Rattle.command_words.specs.Commands.{Asks, command_named, command_of, command_with, commands, name_of, rules_of, word_of}
 use Rattle.command_words.proofs.LawfulReading.{lawful_read, read_lawful}
 
 pub rules_fine : (command : CommandName) → are_rules (rules_of command) ≡ true
@@ -25,34 +25,23 @@ name_read name.Show = refl
 name_read name.Check = refl
 name_read name.Canon = refl
 
+-- what is found by its word has that word
+found_first : (names : List CommandName) (word : Text) (n command : CommandName)
+    → (find (λ m. bytes_eq word (word_of m)) names ≡ Some command → word ≡ word_of command)
+    → (b : Bool) → bytes_eq word (word_of n) ≡ b
+    → (if b then Some n else find (λ m. bytes_eq word (word_of m)) names) ≡ Some command → word ≡ word_of command
+found_first names word n command later true is e =
+    (bytes_eq-Decides word (word_of n)).0 is ∙ ap word_of (same_Some _ _ e)
+found_first names word n command later false is e = later e
+
+found_name : (names : List CommandName) (word : Text) (command : CommandName)
+    → find (λ n. bytes_eq word (word_of n)) names ≡ Some command → word ≡ word_of command
+found_name [] word command e = cc
+found_name (n ∷ names) word command e =
+    found_first names word n command (found_name names word command) (bytes_eq word (word_of n)) refl e
+
 read_name : (word : Text) (command : CommandName) → name_of word ≡ Some command → word ≡ word_of command
-read_name word command e = replay (bytes_eq word (word_of name.Replay)) refl e
-  where
-    canon : (b : Bool) → bytes_eq word (word_of name.Canon) ≡ b → (if b then Some name.Canon else None) ≡ Some command
-        → word ≡ word_of command
-    canon true is e = (bytes_eq-Decides word (word_of name.Canon)).0 is ∙ ap word_of (same_Some _ _ e)
-    canon false is e = cc
-
-    check : (b : Bool) → bytes_eq word (word_of name.Check) ≡ b
-        → (if b then Some name.Check else (if bytes_eq word (word_of name.Canon) then Some name.Canon else None)) ≡ Some command
-        → word ≡ word_of command
-    check true is e = (bytes_eq-Decides word (word_of name.Check)).0 is ∙ ap word_of (same_Some _ _ e)
-    check false is e = canon (bytes_eq word (word_of name.Canon)) refl e
-
-    show : (b : Bool) → bytes_eq word (word_of name.Show) ≡ b
-        → (if b then Some name.Show else (if bytes_eq word (word_of name.Check) then Some name.Check
-        else (if bytes_eq word (word_of name.Canon) then Some name.Canon else None))) ≡ Some command
-        → word ≡ word_of command
-    show true is e = (bytes_eq-Decides word (word_of name.Show)).0 is ∙ ap word_of (same_Some _ _ e)
-    show false is e = check (bytes_eq word (word_of name.Check)) refl e
-
-    replay : (b : Bool) → bytes_eq word (word_of name.Replay) ≡ b
-        → (if b then Some name.Replay else (if bytes_eq word (word_of name.Show) then Some name.Show
-        else (if bytes_eq word (word_of name.Check) then Some name.Check
-        else (if bytes_eq word (word_of name.Canon) then Some name.Canon else None)))) ≡ Some command
-        → word ≡ word_of command
-    replay true is e = (bytes_eq-Decides word (word_of name.Replay)).0 is ∙ ap word_of (same_Some _ _ e)
-    replay false is e = show (bytes_eq word (word_of name.Show)) refl e
+read_name word command e = found_name commands word command e
 
 pub asked_read : (words : List Text) (pieces : List Piece) (command : Command) → Asks words pieces command
     → command_of words ≡ Some command

@@ -1,5 +1,5 @@
 -- The commands: their names, their rules, and what lawful words ask for.
-use Rattle.std.specs.Prelude.{◌≡◌, List, [], ◌∷◌, Option, Some, None, codes, if◌then◌else◌, nat_lt, option_and_then, option_map}
+use Rattle.std.specs.Prelude.{◌≡◌, List, [], ◌∷◌, Option, Some, None, codes, find, if◌then◌else◌, nat_lt, option_and_then, option_map}
 use Rattle.std.specs.Str.{bytes_eq}
 use Rattle.wire_spec.specs.declared.pad.Pad.{Pad}
 use Rattle.wire_spec.specs.declared.pad.Pad.TheVariants.{Any, Zero}
@@ -14,33 +14,6 @@ use Rattle.command_words.specs.Pieces.{Piece, AreLawful, count_of, spelling, tex
 use Rattle.command_words.specs.Limits.{limits_asked, texts_by}
 use Rattle.command_words.specs.Reading.{lawful_pieces}
 
--- a command's first word
-abbrev pub word_of : CommandName → Text
-word_of name.Replay = codes "replay"
-word_of name.Show = codes "show"
-word_of name.Check = codes "check"
-word_of name.Canon = codes "canon"
-
-abbrev pub name_of : Text → Option CommandName
-name_of word =
-    if bytes_eq word (word_of name.Replay) then Some name.Replay
-    else (if bytes_eq word (word_of name.Show) then Some name.Show
-    else (if bytes_eq word (word_of name.Check) then Some name.Check
-    else (if bytes_eq word (word_of name.Canon) then Some name.Canon else None)))
-
--- a command's options and flags
-abbrev pub rules_of : CommandName → List Rule
-rules_of name.Replay =
-    record { name = codes "streams"; form = Optional }
-    ∷ record { name = codes "sources"; form = Optional }
-    ∷ record { name = codes "datagram-width"; form = Optional }
-    ∷ record { name = codes "sample-width"; form = Optional }
-    ∷ record { name = codes "boot-slack"; form = Optional }
-    ∷ []
-rules_of name.Show = []
-rules_of name.Check = record { name = codes "zero"; form = Flag } ∷ []
-rules_of name.Canon = []
-
 -- the padding is zero where the flag stands
 abbrev pub pad_of : List Piece → Pad
 pad_of pieces = if nat_lt 0 (count_of (codes "zero") pieces) then Zero else Any
@@ -49,12 +22,62 @@ pad_of pieces = if nat_lt 0 (count_of (codes "zero") pieces) then Zero else Any
 abbrev pub limits_of : List Piece → Option Limits
 limits_of pieces = limits_asked (texts_by (λ name. text_of name pieces))
 
--- the command of that name with the values of its pieces, or None where one of them is out of its range
+-- a command: its first word, its options and flags, and what it is with the values of its pieces, or None where one of
+-- them is out of its range
+pub record CommandRow : Type 0 where
+  pub word : Text
+  pub rules : List Rule
+  pub gives : List Piece → Option Command
+
+abbrev pub replay_row : CommandRow
+replay_row = record {
+  word = codes "replay";
+  rules =
+      record { name = codes "streams"; form = Optional }
+      ∷ record { name = codes "sources"; form = Optional }
+      ∷ record { name = codes "datagram-width"; form = Optional }
+      ∷ record { name = codes "sample-width"; form = Optional }
+      ∷ record { name = codes "boot-slack"; form = Optional }
+      ∷ [];
+  gives = λ pieces. option_map Replay (limits_of pieces);
+}
+
+abbrev pub show_row : CommandRow
+show_row = record { word = codes "show"; rules = []; gives = λ pieces. Some Show }
+
+abbrev pub check_row : CommandRow
+check_row = record {
+  word = codes "check";
+  rules = record { name = codes "zero"; form = Flag } ∷ [];
+  gives = λ pieces. Some (Check (pad_of pieces));
+}
+
+abbrev pub canon_row : CommandRow
+canon_row = record { word = codes "canon"; rules = []; gives = λ pieces. Some Canon }
+
+abbrev pub row_of : CommandName → CommandRow
+row_of name.Replay = replay_row
+row_of name.Show = show_row
+row_of name.Check = check_row
+row_of name.Canon = canon_row
+
+abbrev pub commands : List CommandName
+commands = name.Replay ∷ name.Show ∷ name.Check ∷ name.Canon ∷ []
+
+-- ---- the same for all commands
+
+abbrev pub word_of : CommandName → Text
+word_of command = (row_of command).word
+
+abbrev pub rules_of : CommandName → List Rule
+rules_of command = (row_of command).rules
+
 abbrev pub command_with : CommandName → List Piece → Option Command
-command_with name.Replay pieces = option_map Replay (limits_of pieces)
-command_with name.Show pieces = Some Show
-command_with name.Check pieces = Some (Check (pad_of pieces))
-command_with name.Canon pieces = Some Canon
+command_with command = (row_of command).gives
+
+-- the command whose first word this is
+abbrev pub name_of : Text → Option CommandName
+name_of word = find (λ command. bytes_eq word (word_of command)) commands
 
 -- the words are a command's name and lawful pieces, which give the command its values
 pub record Asks (words : List Text) (pieces : List Piece) (command : Command) : Type 0 where
