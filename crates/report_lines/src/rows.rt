@@ -3,7 +3,8 @@
 ghost use Rattle.std.specs.Prelude.{◌≡◌, [], ◌∷◌, ◌++◌, codes};
 ghost use Rattle.books_spec.specs.Items.{Other, flow_sample, counters_sample, Malformed};
 ghost use Rattle.books_spec.specs.Books.{books};
-ghost use Rattle.books_spec.specs.BookRows.{limits_of, datagram_of, empty_at, reading};
+ghost use Rattle.books_spec.specs.BookRows.{limits_of, datagram_of, empty_at};
+ghost use Rattle.books_spec.specs.Rows.{reading};
 ghost use Rattle.wire_spec.specs.Fails.{short};
 ghost use Rattle.report_lines.specs.Reports.{report_text};
 
