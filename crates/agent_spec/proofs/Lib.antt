@@ -1,0 +1,6 @@
+pub mod Keys
+pub mod Lists
+pub mod Sums
+pub mod Numbers
+pub mod Rising
+pub mod Begins

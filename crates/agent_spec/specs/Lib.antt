@@ -1,0 +1,9 @@
+pub mod Sources
+pub mod Samples
+pub mod Events
+pub mod Marks
+pub mod Polls
+pub mod Packing
+pub mod Boots
+pub mod Orders
+pub mod Rows
