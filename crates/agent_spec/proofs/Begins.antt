@@ -1,5 +1,5 @@
 -- Nothing is counted in a generation before a source enters it.
-use Rattle.std.proofs.Common.{◌≡◌, ℕ, ◌+◌, ◌≤◌, ◌<◌, suc, inl, inr, Bool, true, false, cond, List, [], ◌∷◌, length, arith, refl, ap, sym, ◌∙◌}
+use Rattle.std.proofs.Common.{◌≡◌, ℕ, ◌+◌, ◌<◌, inl, inr, Bool, true, false, cond, List, [], ◌∷◌, length, arith, refl, ap, ◌∙◌}
 use Rattle.std.specs.Prelude.{nat_lt}
 use Rattle.std.specs.List.{filter}
 use Rattle.std.proofs.lemmas.Bool.{cases_Bool}
@@ -8,7 +8,7 @@ use Rattle.agent_spec.specs.Sources.{Source, Turn, same_turn, FlowSetup, Counter
 use Rattle.agent_spec.specs.Samples.{Packet, Sample, Setup}
 use Rattle.agent_spec.specs.Events.{Event, Observe, Poll, Send, Reset, is_reset_of, generation_after, turn_after}
 use Rattle.agent_spec.specs.Marks.{is_marked}
-use Rattle.agent_spec.specs.Boots.{Boot, started, is_sample_of, seen_in, issued_in, dropped_in, last_poll, issue, flow_sample, with_seen, with_dropped, after_packet, due_sources, counter_sample, with_polled, after_poll, happened}
+use Rattle.agent_spec.specs.Boots.{Boot, is_sample_of, seen_in, issued_in, dropped_in, last_poll, issue, flow_sample, with_seen, with_dropped, after_packet, due_sources, counter_sample, with_polled, after_poll, happened}
 use Rattle.agent_spec.proofs.Lists.{filter-no, count_by-more}
 use Rattle.agent_spec.proofs.Keys.{turn-eq}
 

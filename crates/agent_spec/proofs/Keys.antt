@@ -1,5 +1,5 @@
 -- Two sources or turns that the test takes for the same are one.
-use Rattle.std.proofs.Common.{◌≡◌, ℕ, Bool, true, false, refl, sym}
+use Rattle.std.proofs.Common.{◌≡◌, Bool, true, false, refl, sym}
 use Rattle.std.specs.Prelude.{◌==◌, ◌&&◌}
 use Rattle.std.proofs.lemmas.Bool.{eqb-true, true≢false}
 use Rattle.agent_spec.specs.Sources.{Source, same_kind, same_source, Turn, same_turn}

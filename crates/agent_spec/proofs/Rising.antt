@@ -4,11 +4,11 @@ use Rattle.std.specs.Prelude.{nat_lt}
 use Rattle.std.specs.List.{AllByRecursion, filter}
 use Rattle.std.proofs.lemmas.Bool.{cases_Bool, true≢false}
 use Rattle.wire_spec.specs.Shapes.{Tree}
-use Rattle.agent_spec.specs.Sources.{Source, same_source, Turn, same_turn, FlowSetup, CounterSetup}
+use Rattle.agent_spec.specs.Sources.{same_source, Turn, same_turn, FlowSetup, CounterSetup}
 use Rattle.agent_spec.specs.Samples.{Packet, Sample, Setup}
 use Rattle.agent_spec.specs.Events.{Event, Observe, Poll, Send, Reset, turn_after}
 use Rattle.agent_spec.specs.Marks.{is_marked}
-use Rattle.agent_spec.specs.Boots.{Boot, started, is_sample_of, seen_in, issued_in, dropped_in, issue, flow_sample, with_seen, with_dropped, after_packet, is_due, due_sources, counter_sample, with_polled, after_poll, after_send, happened}
+use Rattle.agent_spec.specs.Boots.{Boot, is_sample_of, seen_in, dropped_in, issue, flow_sample, with_seen, with_dropped, after_packet, is_due, due_sources, counter_sample, with_polled, after_poll, happened}
 use Rattle.agent_spec.specs.Orders.{samples_in, NeverFall, IsOfSetup, IsOnlySetup}
 use Rattle.agent_spec.proofs.Lists.{filter-yes, filter-no, all-filter, all-imply}
 use Rattle.agent_spec.proofs.Keys.{turn-eq, turn-source}

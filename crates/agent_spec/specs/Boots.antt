@@ -4,7 +4,7 @@ use Rattle.std.specs.Prelude.{◌≡◌, ◌⊎◌, ℕ, ◌+◌, ◌≤◌, nat
 use Rattle.std.specs.List.{filter, sum_by}
 use Rattle.wire_spec.specs.Shapes.{Tree}
 use Rattle.agent_spec.specs.Sources.{Source, Turn, same_turn, FlowSetup, CounterSetup}
-use Rattle.agent_spec.specs.Samples.{Packet, Content, Sampled, Counted, Sample, Datagram, Setup}
+use Rattle.agent_spec.specs.Samples.{Packet, Sampled, Counted, Sample, Datagram, Setup}
 use Rattle.agent_spec.specs.Events.{Event, Observe, Poll, Send, Reset, turn_after}
 use Rattle.agent_spec.specs.Marks.{is_marked}
 use Rattle.agent_spec.specs.Polls.{is_due_after}

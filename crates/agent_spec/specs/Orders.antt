@@ -4,7 +4,7 @@ use Rattle.std.specs.List.{AllByRecursion, filter}
 use Rattle.agent_spec.specs.Sources.{Source, same_source, Turn, FlowSetup, CounterSetup}
 use Rattle.agent_spec.specs.Samples.{Sample, Setup}
 use Rattle.agent_spec.specs.Events.{Event, Observe, Poll, Send, Reset}
-use Rattle.agent_spec.specs.Boots.{Boot, happened, is_sample_of}
+use Rattle.agent_spec.specs.Boots.{Boot, is_sample_of}
 
 -- the samples of a source in a generation
 abbrev pub samples_in : Turn → Boot → List Sample

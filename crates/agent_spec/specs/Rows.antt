@@ -1,11 +1,11 @@
 -- Short forms in which worked histories are written.
-use Rattle.std.specs.Prelude.{ℕ, zero, suc, ◌+◌, ◌*◌, nat_le, Bool, true, false, List, [], ◌∷◌, length, map, sum}
+use Rattle.std.specs.Prelude.{ℕ, zero, suc, nat_le, Bool, true, false, List, [], ◌∷◌, length, map, sum}
 use Rattle.std.specs.declared.option.Option.TheVariants.{None}
 use Rattle.wire_spec.specs.Shapes.{Tree}
-use Rattle.agent_spec.specs.Sources.{Source, Turn, FlowSetup, CounterSetup}
-use Rattle.agent_spec.specs.Samples.{Packet, Content, Sampled, Counted, Sample, Datagram, Setup}
-use Rattle.agent_spec.specs.Events.{Event, Observe, Poll, Send, Reset, turn_after}
-use Rattle.agent_spec.specs.Boots.{happened, due_sources, seen_in, issued_in, dropped_in}
+use Rattle.agent_spec.specs.Sources.{Source, FlowSetup, CounterSetup}
+use Rattle.agent_spec.specs.Samples.{Packet, Sampled, Counted, Sample, Datagram, Setup}
+use Rattle.agent_spec.specs.Events.{Event, Observe}
+use Rattle.agent_spec.specs.Boots.{happened, due_sources}
 
 -- a source of flow samples, and one of counters samples with this index
 abbrev pub flow : Source
