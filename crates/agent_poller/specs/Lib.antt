@@ -1,0 +1,3 @@
+pub mod Meters
+pub mod Polling
+pub mod Fields
