@@ -4,3 +4,5 @@ pub mod Sums
 pub mod Numbers
 pub mod Rising
 pub mod Begins
+pub mod Prefixes
+pub mod Sent

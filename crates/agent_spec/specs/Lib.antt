@@ -4,6 +4,8 @@ pub mod Events
 pub mod Marks
 pub mod Polls
 pub mod Packing
+pub mod Spelled
 pub mod Boots
+pub mod Sending
 pub mod Orders
 pub mod Rows

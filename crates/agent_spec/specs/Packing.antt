@@ -1,5 +1,10 @@
 -- The datagrams of a send: staged samples, in order of issue, cut into longest prefixes that fit one datagram.
-use Rattle.std.specs.Prelude.{ℕ, zero, suc, Bool, cond, List, [], ◌∷◌, length, take, drop}
+use Rattle.std.specs.Prelude.{ℕ, zero, suc, Bool, cond, List, [], ◌∷◌, ◌++◌, length, take, drop}
+
+-- lists, one behind the other
+abbrev pub joined : {X : Type 0} → List (List X) → List X
+joined [] = []
+joined (items ∷ more) = items ++ joined more
 
 module _ {X : Type 0} (fits : List X → Bool) where
   -- the greatest number from 1 to k of items at the front that fit together

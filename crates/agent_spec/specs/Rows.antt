@@ -1,10 +1,12 @@
 -- Short forms in which worked histories are written.
 use Rattle.std.specs.Prelude.{ℕ, zero, suc, nat_le, Bool, true, false, List, [], ◌∷◌, length, map, sum}
 use Rattle.std.specs.declared.option.Option.TheVariants.{None}
-use Rattle.wire_spec.specs.Shapes.{Tree}
+use Rattle.wire_spec.specs.Shapes.{Tree, none, ◌&◌}
+use Rattle.wire_spec.specs.Heads.{ipv4}
 use Rattle.agent_spec.specs.Sources.{Source, FlowSetup, CounterSetup}
 use Rattle.agent_spec.specs.Samples.{Packet, Sampled, Counted, Sample, Datagram, Setup}
 use Rattle.agent_spec.specs.Events.{Event, Observe}
+use Rattle.agent_spec.specs.Spelled.{Sender, Compact}
 use Rattle.agent_spec.specs.Boots.{happened, due_sources}
 
 -- a source of flow samples, and one of counters samples with this index
@@ -91,3 +93,25 @@ due stage now events =
 -- numbers of which some fit together
 abbrev pub up_to_five : List ℕ → Bool
 up_to_five numbers = nat_le (sum numbers) 5
+
+-- agent 10.0.0.1, in the compact form, with 144 bytes a datagram
+abbrev pub small_sender : Sender
+small_sender =
+    record { agent = ipv4 (10 ∷ 0 ∷ 0 ∷ 1 ∷ []); sub_agent = 0; form = Compact; max_datagram = 144 }
+
+-- the counters of an interface that has counted nothing
+abbrev pub all_counters : Tree
+all_counters = Tree.structure (
+    Tree.word 1 & Tree.word 6 & Tree.hyper 1000000000 & Tree.word 1 & Tree.word 3 & Tree.hyper 0 & Tree.word 0 &
+    Tree.word 0 & Tree.word 0 & Tree.word 0 & Tree.word 0 & Tree.word 0 & Tree.hyper 0 & Tree.word 0 & Tree.word 0 &
+    Tree.word 0 & Tree.word 0 & Tree.word 0 & Tree.word 2 & none)
+
+abbrev pub counter_reading : Sample
+counter_reading = record {
+  turn = record { source = counter 1; generation = 1 };
+  number = 1;
+  pool = 0;
+  drops = 0;
+  rate = 0;
+  content = Counted all_counters;
+}
