@@ -1,3 +1,4 @@
 pub mod Skips
 pub mod Sampling
 pub mod Fields
+pub mod Following

@@ -2,6 +2,7 @@
 //! sample pool and the drops that a sample shows (sFlow Version 5, section 5).
 #![tactic(auto)]
 
+pub mod laws;
 mod sampler;
 mod skips;
 #[cfg(test)]
