@@ -1,3 +1,4 @@
 pub mod Meters
 pub mod Polling
 pub mod Fields
+pub mod Following

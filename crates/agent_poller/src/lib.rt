@@ -2,6 +2,7 @@
 //! (sFlow Version 5, section 5).
 #![tactic(auto)]
 
+pub mod laws;
 mod list_meter;
 mod meter;
 mod poller;
