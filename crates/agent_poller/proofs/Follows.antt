@@ -1,43 +1,18 @@
 -- How the counts of a counter source move with an event.
-use Rattle.std.proofs.Common.{◌≡◌, ℕ, ◌+◌, ◌<◌, suc, inl, inr, Bool, true, false, cond, List, ◌∷◌, length, arith, refl, ap, sym, ◌∙◌}
-use Rattle.std.specs.Prelude.{nat_lt, ◌==◌, ◌&&◌}
-use Rattle.std.specs.List.{filter, count_by}
-use Rattle.std.proofs.lemmas.Bool.{cases_Bool, eq-eqb, true≢false}
-use Rattle.std.proofs.lemmas.List.Sums.{sum_by-cons}
+use Rattle.std.proofs.Common.{◌≡◌, ℕ, ◌+◌, suc, Bool, true, false, cond, List, ◌∷◌, length, arith, refl, ap, ◌∙◌}
+use Rattle.std.specs.Prelude.{nat_lt}
+use Rattle.std.specs.List.{filter}
 use Rattle.wire_spec.specs.Shapes.{Tree}
-use Rattle.agent_spec.specs.Sources.{Source, same_kind, same_source, Turn, same_turn, FlowSetup, CounterSetup}
+use Rattle.agent_spec.specs.Sources.{Source, same_source, Turn, same_turn, FlowSetup, CounterSetup}
 use Rattle.agent_spec.specs.Samples.{Packet, Sample, Setup}
-use Rattle.agent_spec.specs.Events.{Event, Observe, Send, Reset, is_reset_of, generation_after, turn_after}
+use Rattle.agent_spec.specs.Events.{Event, Observe, Send, Reset, is_reset_of, turn_after}
 use Rattle.agent_spec.specs.Marks.{is_marked}
 use Rattle.agent_spec.specs.Boots.{Boot, is_sample_of, seen_in, issued_in, last_poll, issue, flow_sample, with_seen, with_dropped, after_packet, counter_sample, happened}
 use Rattle.agent_spec.proofs.Lists.{filter-yes, filter-no}
-use Rattle.agent_spec.proofs.Keys.{turn-source}
+use Rattle.agent_spec.proofs.Keys.{turn-self, other-turn}
+use Rattle.agent_spec.proofs.Turns.{turn-stays, generation-goes-on}
 use Rattle.agent_spec.proofs.Begins.{IsEmpty, empty-before}
 use Rattle.agent_poller.specs.Following.{PollCounts, none_yet, counts_in, counts_after, after_one}
-
--- ---- a source is the same as itself
-
-kind-self : (b : Bool) → same_kind b b ≡ true
-kind-self true = refl
-kind-self false = refl
-
-and-yes : (a b : Bool) → a ≡ true → b ≡ true → (a && b) ≡ true
-and-yes a b e f = rw (e, f) refl
-
-source-self : (s : Source) → same_source s s ≡ true
-source-self s = and-yes (same_kind s.flow s.flow && (s.class == s.class)) (s.index == s.index)
-    (and-yes (same_kind s.flow s.flow) (s.class == s.class) (kind-self s.flow) (eq-eqb s.class s.class refl))
-    (eq-eqb s.index s.index refl)
-
-turn-self : (t : Turn) → same_turn t t ≡ true
-turn-self t = and-yes (same_source t.source t.source) (t.generation == t.generation) (source-self t.source)
-    (eq-eqb t.generation t.generation refl)
-
-other-turn : (t own : Turn) → same_source t.source own.source ≡ false → same_turn t own ≡ false
-other-turn t own e = elim (cases_Bool (same_turn t own)) [
-  | inl same ↦ absurd (true≢false (sym (turn-source t own same) ∙ e))
-  | inr other ↦ other
-]
 
 -- ---- polls
 
@@ -62,36 +37,14 @@ other-poll c turn own now reading b other =
     ap (λ (k : Bool). cond k now (last_poll turn b.polled)) other in
     λ i. record { issued = same i; last = at i }
 
--- ---- generations
-
-generation-stays : (source : Source) (e : Event) (events : List Event) → is_reset_of source e ≡ false
-    → generation_after source (e ∷ events) ≡ generation_after source events
-generation-stays source e events other =
-    let c : count_by (is_reset_of source) (e ∷ events) ≡ cond (is_reset_of source e) 1 0 + count_by (is_reset_of source) events =
-    sum_by-cons (λ (x : Event). cond (is_reset_of source x) 1 0) e events in
-    let none : ℕ = 0 in
-    let zero_more : cond (is_reset_of source e) 1 0 ≡ none = ap (λ (b : Bool). cond b 1 0) other in
-    omega (arith, c, zero_more)
-
-generation-goes-on : (source : Source) (events : List Event)
-    → generation_after source events < generation_after source (Reset source ∷ events)
-generation-goes-on source events =
-    let c : count_by (is_reset_of source) (Reset source ∷ events) ≡ cond (same_source source source) 1 0 + count_by (is_reset_of source) events =
-    sum_by-cons (λ (x : Event). cond (is_reset_of source x) 1 0) (Reset source) events in
-    let one : ℕ = 1 in
-    let one_more : cond (same_source source source) 1 0 ≡ one = ap (λ (b : Bool). cond b 1 0) (source-self source) in
-    omega (arith, c, one_more)
+-- ---- events
 
 -- the counts of the generation are these, where the generation stays
 stays : (s : Setup) (source : Source) (e : Event) (events : List Event) (c : PollCounts)
     → is_reset_of source e ≡ false → counts_in (turn_after source events) (happened s (e ∷ events)) ≡ c
     → counts_after s source (e ∷ events) ≡ c
 stays s source e events c other h =
-    ap (λ (n : ℕ). counts_in (record { source = source; generation = n }) (happened s (e ∷ events)))
-    (generation-stays source e events other)
-    ∙ h
-
--- ---- events
+    ap (λ (t : Turn). counts_in t (happened s (e ∷ events))) (turn-stays source e events other) ∙ h
 
 pub reset-counts : (s : Setup) (source : Source) (events : List Event)
     → counts_after s source (Reset source ∷ events) ≡ none_yet

@@ -6,3 +6,4 @@ pub mod Rising
 pub mod Begins
 pub mod Prefixes
 pub mod Sent
+pub mod Turns

@@ -1,8 +1,8 @@
 -- The pools and drops of a flow source in one generation, in order of issue.
-use Rattle.std.proofs.Common.{◌≡◌, ℕ, ◌+◌, ◌≤◌, ◌<◌, suc, inl, inr, Bool, true, false, cond, List, [], ◌∷◌, length, arith, refl, ap, sym, ◌∙◌, subst}
+use Rattle.std.proofs.Common.{◌≡◌, ℕ, ◌+◌, ◌≤◌, ◌<◌, suc, inl, inr, Bool, true, false, cond, List, [], ◌∷◌, length, arith, refl, ap, sym, subst}
 use Rattle.std.specs.Prelude.{nat_lt}
 use Rattle.std.specs.List.{AllByRecursion, filter}
-use Rattle.std.proofs.lemmas.Bool.{cases_Bool, true≢false}
+use Rattle.std.proofs.lemmas.Bool.{cases_Bool}
 use Rattle.wire_spec.specs.Shapes.{Tree}
 use Rattle.agent_spec.specs.Sources.{same_source, Turn, same_turn, FlowSetup, CounterSetup}
 use Rattle.agent_spec.specs.Samples.{Packet, Sample, Setup}
@@ -11,7 +11,7 @@ use Rattle.agent_spec.specs.Marks.{is_marked}
 use Rattle.agent_spec.specs.Boots.{Boot, is_sample_of, seen_in, dropped_in, issue, flow_sample, with_seen, with_dropped, after_packet, is_due, due_sources, counter_sample, with_polled, after_poll, happened}
 use Rattle.agent_spec.specs.Orders.{samples_in, NeverFall, IsOfSetup, IsOnlySetup}
 use Rattle.agent_spec.proofs.Lists.{filter-yes, filter-no, all-filter, all-imply}
-use Rattle.agent_spec.proofs.Keys.{turn-eq, turn-source}
+use Rattle.agent_spec.proofs.Keys.{turn-eq, turn-source, other-turn}
 
 module _ (f : FlowSetup) (turn : Turn) where
   -- issued by the time that so many packets were seen and so many dropped
@@ -120,16 +120,10 @@ module _ (f : FlowSetup) (turn : Turn) where
   polled now before (c ∷ due) (reading ∷ more) b others h =
       let own : Turn = turn_after c.source before in
       let x : Sample = counter_sample c own reading b in
-      let other : same_turn turn own ≡ false = not-same own others.0 in
+      let other : same_turn turn own ≡ false = other-turn turn own others.0 in
       polled now before due more (with_polled own now (issue x b)) others.1
       (moved (seen_in turn b) (dropped_in turn b) _ _ (samples_in turn b) _ refl refl
       (filter-no (is_sample_of turn) x b.issued other) h)
-    where
-      not-same : (own : Turn) → same_source turn.source own.source ≡ false → same_turn turn own ≡ false
-      not-same own e = elim (cases_Bool (same_turn turn own)) [
-        | inl same ↦ absurd (true≢false (sym (turn-source turn own same) ∙ e))
-        | inr other ↦ other
-      ]
 
 pub never-fall : (s : Setup) (f : FlowSetup) (events : List Event) (generation : ℕ) → IsOnlySetup f s events
     → NeverFall (samples_in (record { source = f.source; generation = generation }) (happened s events))

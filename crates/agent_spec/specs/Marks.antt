@@ -1,5 +1,5 @@
--- Which packets of a source are marked for a sample (sFlow Version 5, section 4.2.2: packets are skipped between one
--- sample and the next).
+-- Which packets of a source are marked for a sample: as many as a skip number says are counted from one mark to the
+-- next, the marked one among them (sFlow Version 5, packet flow sampling).
 use Rattle.std.specs.Prelude.{◌≡◌, ℕ, zero, suc, ◌+◌, ◌%◌, ◌≤◌, ◌==◌, ◌||◌, Bool, false, List, length, get_or}
 
 -- the skip number behind k others, taken cyclically

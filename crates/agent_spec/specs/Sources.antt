@@ -1,4 +1,4 @@
--- The sources of an agent, and how each is sampled or polled (sFlow Version 5, section 5: sFlowFsTable, sFlowCpTable).
+-- The sources of an agent, and how each is sampled or polled (sFlow Version 5, its MIB: sFlowFsTable, sFlowCpTable).
 use Rattle.std.specs.Prelude.{ℕ, ◌==◌, ◌&&◌, not, Bool, true, false, List}
 
 -- what samples are taken of: flow samples or counters samples, of one class and index
