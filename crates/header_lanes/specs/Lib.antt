@@ -1,0 +1,5 @@
+pub mod Numbers
+pub mod Internet
+pub mod Ethernet
+pub mod Facts
+pub mod Rows

@@ -1,0 +1,12 @@
+//! What the first bytes of a sampled packet say: its kind, VLAN, addresses, ports and flags.
+#![tactic(auto)]
+
+mod header;
+mod internet;
+mod rows;
+mod scanner;
+
+pub use data_format::Address;
+pub use header::{HeaderFacts, Kind};
+pub use rows::worked_headers;
+pub use scanner::scan_one;
