@@ -3,10 +3,12 @@
 
 mod header;
 mod internet;
+mod laws;
 mod rows;
 mod scanner;
 
 pub use data_format::Address;
 pub use header::{HeaderFacts, Kind};
+pub use laws::ninety_six_bytes_tell;
 pub use rows::worked_headers;
 pub use scanner::scan_one;

@@ -1,0 +1,12 @@
+ghost use Rattle.std.specs.Prelude.{◌≡◌, ◌≢◌, ℕ, ◌≤◌, List, take};
+ghost use Rattle.header_lanes.specs.Facts.{facts, facts_in};
+ghost use Rattle.header_lanes.specs.Rows.{tagged_header};
+
+/// The first 96 bytes tell all: two tags behind the addresses, an IPv4 header of 60 bytes, and the 14 bytes of TCP up to
+/// the control bits. Fewer don't.
+pub fn ninety_six_bytes_tell()
+    ensures any_more { (n protocol : ℕ) (header : List ℕ) → 96 ≤ n
+        → facts_in protocol (take n header) ≡ facts_in protocol header }
+    ensures facts { (protocol : ℕ) (header : List ℕ) → facts protocol header ≡ facts_in protocol (take 96 header) }
+    ensures no_fewer { facts 1 (take 95 (tagged_header 0)) ≢ facts 1 (tagged_header 0) }
+{}
