@@ -2,7 +2,7 @@
 use Rattle.std.proofs.Common.{◌≡◌, ℕ, zero, suc, ◌+◌, ◌*◌, ◌-◌, ◌/◌, ◌%◌, ◌<◌, ◌≤◌, ◌||◌, ◌&&◌, Bool, true, false, List, Option, Some, None, refl, ap, ap₂, ◌∙◌, arith, length, take, drop, min, slice_index, slice_range, nat_eq, nat_le, if◌then◌else◌}
 use Rattle.std.proofs.lemmas.List.{get_or-take, length-take, drop-take, take-take}
 use Rattle.std.proofs.lemmas.Bool.Decides.{nat_tests}
-use Rattle.header_lanes.specs.declared.header.Kind.TheVariants.{Short, Length, Undefined, BadIp}
+use Rattle.header_lanes.specs.declared.header.Kind.TheVariants.{Short, BadIp}
 use Rattle.header_lanes.specs.declared.header.HeaderFacts.{HeaderFacts}
 use Rattle.header_lanes.specs.Numbers.{number_at, bare}
 use Rattle.header_lanes.specs.Internet.{with_transport, with_ipv4, behind_ipv4, ipv4_at, with_ipv6, ipv6_at}

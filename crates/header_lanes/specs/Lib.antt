@@ -3,3 +3,4 @@ pub mod Internet
 pub mod Ethernet
 pub mod Facts
 pub mod Rows
+pub mod Batches

@@ -1,5 +1,5 @@
 -- A worked header: Ethernet with two tags, and TCP behind an IPv4 header of fifteen words.
-use Rattle.std.specs.Prelude.{ℕ, List, [], ◌∷◌, ◌++◌, Option, Some, None, replicate}
+use Rattle.std.specs.Prelude.{ℕ, List, [], ◌∷◌, ◌++◌, Option, Some, replicate}
 use Rattle.data_format.specs.declared.address.Address.TheVariants.{V4}
 use Rattle.header_lanes.specs.declared.header.Kind.TheVariants.{Ipv4}
 use Rattle.header_lanes.specs.declared.header.HeaderFacts.{HeaderFacts}

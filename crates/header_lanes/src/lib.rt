@@ -1,12 +1,14 @@
 //! What the first bytes of a sampled packet say: its kind, VLAN, addresses, ports and flags.
 #![tactic(auto)]
 
+mod batch;
 mod header;
 mod internet;
 mod laws;
 mod rows;
 mod scanner;
 
+pub use batch::{Batch, BatchFull};
 pub use data_format::Address;
 pub use header::{HeaderFacts, Kind};
 pub use laws::ninety_six_bytes_tell;

@@ -95,8 +95,9 @@ fn read_ethernet(header: &[u8]) -> HeaderFacts
 }
 
 /// The bytes that are looked at.
-fn front(header: &[u8]) -> &[u8]
-    ensures { result.now ≡ take 128 header.now }
+pub fn front(header: &[u8]) -> &[u8]
+    ensures bytes { result.now ≡ take 128 header.now }
+    ensures few { length result.now ≤ 128 }
 {
     &header[..128usize.min(header.len())]
 }

@@ -1,5 +1,4 @@
 use Rattle.std.proofs.Common.{◌∙◌, ◌≡◌, sym, ap, take, Some, None, Option, ℕ, refl, arith}
-use Rattle.header_lanes.specs.declared.header.HeaderFacts.{HeaderFacts}
 use Rattle.header_lanes.specs.Facts.{facts, facts_in}
 use Rattle.header_lanes.specs.Rows.{tagged_header, tagged_facts}
 use Rattle.header_lanes.specs.Ethernet.{ethernet, vlan_of, type_behind, from_type, by_type, by_ethertype}

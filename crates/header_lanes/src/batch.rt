@@ -1,0 +1,113 @@
+// Sixteen headers, scanned together.
+ghost use Rattle.std.specs.Prelude.{◌≡◌, ◌↔◌, ◌+◌, ◌-◌, ◌<◌, ◌≤◌, [], ◌∷◌, ◌++◌, length, replicate, IfOk, IfErr, IsErr};
+ghost use Rattle.header_lanes.specs.declared.header.Kind.TheVariants.{Unscanned};
+ghost use Rattle.header_lanes.specs.Numbers.{bare};
+ghost use Rattle.header_lanes.specs.Facts.{facts};
+ghost use Rattle.header_lanes.specs.Batches.{owed};
+
+use crate::header::HeaderFacts;
+use crate::scanner::{front, scan_one};
+use std::marker::Model;
+
+/// Sixteen headers are held.
+#[derive(Debug, Clone, Copy, PartialEq, Eq)]
+pub struct BatchFull;
+
+// One of the places: a header protocol, and the header's first bytes.
+#[derive(Debug, Clone, Copy)]
+struct Slot {
+    protocol: u32,
+    length: usize,
+    bytes: [u8; 128],
+}
+
+impl Slot {
+    fn of(protocol: u32, header: &[u8]) -> Slot
+        ensures { owed result ≡ facts protocol header.now }
+    {
+        let header = front(header);
+        let mut bytes = [0; 128];
+        bytes[..header.len()].copy_from_slice(header);
+        Slot {
+            protocol,
+            length: header.len(),
+            bytes,
+        }
+    }
+
+    fn facts(&self) -> HeaderFacts
+        ensures { result ≡ owed self.now }
+    {
+        scan_one(self.protocol, &self.bytes[..self.length.min(128)])
+    }
+}
+
+/// At most sixteen headers, and the facts that are owed for them, in the order in which they came.
+#[derive(Debug, Drop)]
+pub struct Batch {
+    held: usize,
+    slots: [Slot; 16],
+}
+
+impl Model for Batch {
+    ghost use Rattle.std.specs.Prelude.{◌≡◌, ◌≤◌, List, length, map, take};
+    ghost use Rattle.header_lanes.specs.declared.header.HeaderFacts.{HeaderFacts};
+    ghost use Rattle.header_lanes.specs.Batches.{owed};
+
+    ghost Value = { List HeaderFacts };
+
+    ghost view = { λ b. take b.held (map owed b.slots) };
+
+    ghost invariant = { λ b. (b.held ≤ 16) × (length b.slots ≡ 16) };
+}
+
+impl Batch {
+    /// No header.
+    pub fn new() -> Batch
+        ensures { result ≡ [] }
+    {
+        Batch {
+            held: 0,
+            slots: [Slot::of(0, &[]); 16],
+        }
+    }
+
+    /// How many headers are held, at most 16.
+    pub fn len(&self) -> usize
+        ensures length { result ≡ length self.now }
+        ensures most { result ≤ 16 }
+    {
+        self.held
+    }
+
+    /// Lets all headers go.
+    pub fn clear(&mut self)
+        ensures { self.new ≡ [] }
+    {
+        self.held = 0;
+    }
+
+    /// Takes the first 128 bytes of a header. `BatchFull` exactly where 16 are held; then the batch stays as it was.
+    pub fn push(&mut self, protocol: u32, header: &[u8]) -> Result<(), BatchFull>
+        ensures taken { IfOk result (λ _. self.new ≡ self.old ++ facts protocol header.now ∷ []) }
+        ensures kept { IfErr result (λ _. self.new ≡ self.old) }
+        ensures full { IsErr result ↔ (length self.old ≡ 16) }
+    {
+        if self.held == 16 {
+            return Err(BatchFull);
+        }
+        self.slots[self.held] = Slot::of(protocol, header);
+        self.held += 1;
+        Ok(())
+    }
+
+    /// The facts of the headers held, in order, and none behind them.
+    pub fn scan(&self, facts: &mut [HeaderFacts; 16])
+        ensures { facts.new ≡ self.now ++ replicate (16 - length self.now) (bare Unscanned) }
+    {
+        *facts = [HeaderFacts::none(); 16];
+        for k in 0..self.held {
+            facts[k] = self.slots[k].facts();
+        }
+    }
+}
