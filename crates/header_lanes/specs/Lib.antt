@@ -4,3 +4,4 @@ pub mod Ethernet
 pub mod Facts
 pub mod Rows
 pub mod Batches
+pub mod Places
