@@ -5,3 +5,4 @@ pub mod Facts
 pub mod Rows
 pub mod Batches
 pub mod Places
+pub mod Kinds

@@ -1,5 +1,6 @@
 ghost use Rattle.std.specs.Prelude.{◌≡◌, ◌≢◌, ℕ, ◌≤◌, List, take};
 ghost use Rattle.header_lanes.specs.Facts.{facts, facts_in};
+ghost use Rattle.header_lanes.specs.Kinds.{HasFactsOf};
 ghost use Rattle.header_lanes.specs.Places.{AreThere, ip_place};
 ghost use Rattle.header_lanes.specs.Rows.{tagged_header};
 
@@ -18,4 +19,12 @@ pub fn what_is_told_stands_there()
     ensures { (protocol : ℕ) (header : List ℕ) →
         let h = take 128 header in
         AreThere (ip_place protocol h) h (facts protocol header) }
+{}
+
+/// Each header is of one kind, and the kind says which facts there are: those of an IP header exactly with `Ipv4` and
+/// `Ipv6`, and no type with a length or an undefined type.
+pub fn each_kind_has_its_facts()
+    ensures { (protocol : ℕ) (header : List ℕ) →
+        let f = facts protocol header in
+        HasFactsOf f.kind f }
 {}

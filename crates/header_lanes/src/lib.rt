@@ -11,6 +11,6 @@ mod scanner;
 pub use batch::{Batch, BatchFull};
 pub use data_format::Address;
 pub use header::{HeaderFacts, Kind};
-pub use laws::{ninety_six_bytes_tell, what_is_told_stands_there};
+pub use laws::{each_kind_has_its_facts, ninety_six_bytes_tell, what_is_told_stands_there};
 pub use rows::worked_headers;
 pub use scanner::scan_one;
