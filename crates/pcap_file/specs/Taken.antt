@@ -1,0 +1,19 @@
+-- What contracts see of a payload that was read.
+use Rattle.std.specs.Prelude.{Result, Ok, Err}
+use Rattle.data_format.specs.Addresses.{address_of}
+use Rattle.capture_spec.specs.declared.passed.Passed.{Passed}
+use Rattle.capture_spec.specs.Payloads as spec
+use Rattle.capture_spec.specs.Payloads.{PayloadOutcome}
+use Rattle.pcap_file.specs.declared.payload.Sender.{Sender}
+use Rattle.pcap_file.specs.declared.payload.Payload.{Payload}
+
+abbrev pub sender_of : Sender → spec.Sender
+sender_of s = record { address = address_of s.address; port = s.port }
+
+-- its sender, and the bytes that it points at
+abbrev pub payload_value : Payload → spec.Payload
+payload_value p = record { sender = sender_of p.sender; bytes = p.bytes.now }
+
+abbrev pub outcome_of : Result Payload Passed → PayloadOutcome
+outcome_of (Ok payload) = Ok (payload_value payload)
+outcome_of (Err reason) = Err reason
