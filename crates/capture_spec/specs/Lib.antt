@@ -1,2 +1,5 @@
 pub mod Payloads
 pub mod PayloadRows
+pub mod PcapFiles
+pub mod PcapReading
+pub mod PcapRows
