@@ -1,9 +1,10 @@
 -- Packets read one after the other: what is read is so, and what is so is read.
-use Rattle.std.proofs.Common.{◌≡◌, ℕ, zero, suc, ◌+◌, ◌<◌, ◌≤◌, nat_lt, if◌then◌else◌, List, [], ◌∷◌, length, take, drop, Ok, Err, refl, sym, ap, subst, ◌∙◌, arith, length-drop}
+use Rattle.std.proofs.Common.{◌≡◌, ℕ, zero, suc, ◌+◌, ◌<◌, ◌≤◌, nat_lt, if◌then◌else◌, List, [], ◌∷◌, length, take, drop, Ok, Err, refl, ap, subst, ◌∙◌, arith, length-drop}
 use Rattle.std.proofs.lemmas.Bool.{cond_both, ltb-false}
+use Rattle.capture_spec.specs.declared.byte_order.ByteOrder.{ByteOrder}
 use Rattle.capture_spec.specs.declared.pcap_kind.PcapKind.{PcapKind}
 use Rattle.capture_spec.specs.declared.pcap_kind.PcapKind.TheVariants.{Magic, Version, Link, Long, Cut}
-use Rattle.capture_spec.specs.PcapFiles.{ByteOrder, Packet, Front, Stops, Holds, EndsWithin, IsTooLong, Walks, most_captured, captured_at, arrival_at, front_of_bytes, front_of_packet, front_of, packets_length}
+use Rattle.capture_spec.specs.PcapFiles.{Packet, Front, Stops, Holds, EndsWithin, IsTooLong, Walks, most_captured, captured_at, arrival_at, front_of_bytes, front_of_packet, front_of, packets_length}
 use Rattle.capture_spec.specs.PcapReading.{PcapOutcome, with_packet, read_front, packets_reading}
 
 -- ---- fronts

@@ -2,9 +2,11 @@
 use Rattle.std.proofs.Common.{◌≡◌, ◌≢◌, ℕ, suc, ◌+◌, ◌<◌, true, false, inl, inr, if◌then◌else◌, List, length, drop, Ok, Err, bytes_eq, refl, sym, ap, subst, ◌∙◌, arith, length-drop}
 use Rattle.std.proofs.lemmas.Bool.{cond_both, cond-true, cond-false, false_from_ne_true, both_ways}
 use Rattle.std.proofs.lemmas.Slice.Eq.{bytes_eq-Decides}
+use Rattle.capture_spec.specs.declared.byte_order.ByteOrder.{ByteOrder}
+use Rattle.capture_spec.specs.declared.byte_order.ByteOrder.TheVariants.{HighFirst, LowFirst}
 use Rattle.capture_spec.specs.declared.pcap_kind.PcapKind.{PcapKind}
 use Rattle.capture_spec.specs.declared.pcap_kind.PcapKind.TheVariants.{Magic, Version, Link, Long, Cut}
-use Rattle.capture_spec.specs.PcapFiles.{ByteOrder, HighFirst, LowFirst, Packet, Front, StandsBehind, PcapFile, PcapFault, HasHeader, HasOneReading, four_at, magic, version, ethernet, packets_length}
+use Rattle.capture_spec.specs.PcapFiles.{Packet, PcapFault, HasHeader, HasOneReading, four_at, magic, version, ethernet, packets_length}
 use Rattle.capture_spec.specs.PcapReading.{PcapOutcome, IsPcapOutcome, packets_reading, reading_in, pcap_reading}
 use Rattle.capture_spec.proofs.PacketWalks.{AreRead, PacketsBreak, packets_show, read_back}
 

@@ -1,18 +1,15 @@
 -- A classic pcap file: a header of 24 bytes, and packets to the end of the input. The header is the magic
 -- 0xa1b2c3d4, the version 2.4 in two numbers of 16 bits, two words and the snap length, which may be any, and the link
 -- type. The order of the magic's bytes is that of all numbers of the file.
-use Rattle.std.specs.Prelude.{◌≡◌, ◌≢◌, ℕ, ◌+◌, ◌*◌, ◌/◌, nat_lt, if◌then◌else◌, List, [], ◌∷◌, ◌++◌, length, take, drop, reverse, Result, Ok, Err}
+use Rattle.std.specs.Prelude.{◌≡◌, ◌≢◌, ℕ, ◌+◌, ◌*◌, ◌/◌, nat_lt, if◌then◌else◌, List, [], ◌∷◌, ◌++◌, length, take, drop, reverse}
 use Rattle.std.specs.Int.{w32, from_be_bytes, from_le_bytes}
 use Rattle.wire_spec.specs.Exactly.{OneOfEither}
+use Rattle.capture_spec.specs.declared.byte_order.ByteOrder.{ByteOrder}
+use Rattle.capture_spec.specs.declared.byte_order.ByteOrder.TheVariants.{HighFirst, LowFirst}
 use Rattle.capture_spec.specs.declared.pcap_kind.PcapKind.{PcapKind}
 use Rattle.capture_spec.specs.declared.pcap_kind.PcapKind.TheVariants.{Magic, Version, Link, Long, Cut}
 
 -- ---- numbers
-
--- the highest byte comes first, or the lowest
-pub data ByteOrder : Type 0 where
-  HighFirst : ByteOrder
-  LowFirst : ByteOrder
 
 -- these bytes of a number, the highest first, as they stand in a file
 abbrev pub in_order : ByteOrder → List ℕ → List ℕ

@@ -1,8 +1,10 @@
 -- The reading of a classic pcap file as one total function.
-use Rattle.std.specs.Prelude.{◌≡◌, ℕ, zero, suc, ◌+◌, if◌then◌else◌, List, [], ◌∷◌, length, take, drop, bytes_eq, Result, Ok, Err}
+use Rattle.std.specs.Prelude.{ℕ, zero, suc, ◌+◌, if◌then◌else◌, List, [], ◌∷◌, length, drop, bytes_eq, Result, Ok, Err}
+use Rattle.capture_spec.specs.declared.byte_order.ByteOrder.{ByteOrder}
+use Rattle.capture_spec.specs.declared.byte_order.ByteOrder.TheVariants.{HighFirst, LowFirst}
 use Rattle.capture_spec.specs.declared.pcap_kind.PcapKind.{PcapKind}
 use Rattle.capture_spec.specs.declared.pcap_kind.PcapKind.TheVariants.{Magic, Version, Link, Long, Cut}
-use Rattle.capture_spec.specs.PcapFiles.{ByteOrder, HighFirst, LowFirst, Packet, Front, Stops, Holds, EndsWithin, IsTooLong, PcapFile, PcapFault, four_at, magic, version, ethernet, front_of}
+use Rattle.capture_spec.specs.PcapFiles.{Packet, Front, Stops, Holds, EndsWithin, IsTooLong, PcapFile, PcapFault, four_at, magic, version, ethernet, front_of}
 
 -- the packets of a file, or a fault: its offset, and its kind
 abbrev pub PcapOutcome : Type 0
