@@ -1,0 +1,2 @@
+pub mod PacketFronts
+pub mod Headers

@@ -1,7 +1,13 @@
 //! Classic pcap files, packet by packet, and the payloads that their packets carry to a collector.
 #![tactic(auto)]
 
+mod header;
+mod packet_reader;
 mod payload;
+mod read_ahead;
+mod reading;
 
-pub use capture_spec::Passed;
+pub use capture_spec::{ByteOrder, Passed, PcapKind};
 pub use payload::{Payload, Sender, read_payload};
+pub use reading::{PcapNext, PcapRefusal, PcapStage};
+pub use sflow_io::{Memory, Source};
