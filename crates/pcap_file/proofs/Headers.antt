@@ -20,7 +20,7 @@ other : (xs ys : List ℕ) → bytes_eq xs ys ≡ false → xs ≢ ys
 other xs ys e is = both_ways _ e ((bytes_eq-Decides xs ys).1 is)
 
 -- bytes have one order
-one_order : (o p : ByteOrder) (bytes : List ℕ) → bytes ≡ magic o → bytes ≡ magic p → o ≡ p
+pub one_order : (o p : ByteOrder) (bytes : List ℕ) → bytes ≡ magic o → bytes ≡ magic p → o ≡ p
 one_order HighFirst HighFirst bytes e f = refl
 one_order LowFirst LowFirst bytes e f = refl
 one_order HighFirst LowFirst bytes e f =

@@ -1,2 +1,3 @@
 pub mod PacketFronts
 pub mod Headers
+pub mod Begins

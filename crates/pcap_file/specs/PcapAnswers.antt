@@ -91,10 +91,39 @@ RefusesHeader bytes (Err (refusal.BadInput at kind)) = PcapFault bytes at kind
 RefusesHeader bytes (Err refusal.ReadFault) = ⊤
 RefusesHeader bytes (Err refusal.Spent) = ⊥
 
+-- ---- the next stage
+
+-- a packet leads on, and any other answer is the last
+abbrev pub stage_after : PcapStage → Answer → PcapStage
+stage_after (stage.Within order count offset) (Ok (next.Packet at len)) =
+    stage.Within order (count + 1) (offset + (16 + len))
+stage_after stage.Start (Ok (next.Packet at len)) = stage.Start
+stage_after (stage.Ended last) (Ok (next.Packet at len)) = stage.Ended last
+stage_after before (Ok next.End) = stage.Ended (Ok next.End)
+stage_after before (Err e) = stage.Ended (Err e)
+
+-- behind the header of a file of this order
+abbrev pub behind_header : ByteOrder → PcapStage
+behind_header order = stage.Within order 0 24
+
+-- the first answer is as one behind a header, of one order or the other; the last answer comes again
+abbrev pub IsStageAfter : PcapStage → PcapStage → Answer → Type 0
+IsStageAfter stage.Start after answer = (order : ByteOrder) × (after ≡ stage_after (behind_header order) answer)
+IsStageAfter (stage.Within order count offset) after answer =
+    after ≡ stage_after (stage.Within order count offset) answer
+IsStageAfter (stage.Ended last) after answer = after ≡ stage.Ended last
+
+-- ---- the answer by stage
+
+-- a packet behind a header, and where the reader stands then
+pub record AnswersBehind (order : ByteOrder) (bytes room : List ℕ) (left : Option (List ℕ)) (after : PcapStage)
+    (answer : Answer) : Type 0 where
+  pub front : AnswersFront 24 (front_of order (drop 24 bytes)) room left answer
+  pub stage_is : after ≡ stage_after (behind_header order) answer
+
 -- the answer at the start of the input
-pub record AnswersStart (bytes room : List ℕ) (left : Option (List ℕ)) (answer : Answer) : Type 0 where
-  pub goes_on : (order : ByteOrder) → HasHeader order bytes
-      → AnswersFront 24 (front_of order (drop 24 bytes)) room left answer
+pub record AnswersStart (bytes room : List ℕ) (left : Option (List ℕ)) (after : PcapStage) (answer : Answer) : Type 0 where
+  pub goes_on : (order : ByteOrder) → HasHeader order bytes → AnswersBehind order bytes room left after answer
   pub refuses : HasNoHeader bytes → RefusesHeader bytes answer
 
 -- the answer behind so many packets
@@ -103,13 +132,13 @@ pub record AnswersWithin (order : ByteOrder) (count offset : ℕ) (bytes room : 
   pub goes_on : count < 2 ^ 48 → AnswersFront offset (front_of order bytes) room left answer
   pub at_most : 2 ^ 48 ≤ count → AnswersLast bytes answer
 
--- what a reader that stands here answers where these bytes are left, with what the room then holds and what
--- is left then
-abbrev pub Answers : PcapStage → List ℕ → List ℕ → Option (List ℕ) → Answer → Type 0
-Answers stage.Start bytes room left answer = AnswersStart bytes room left answer
-Answers (stage.Within order count offset) bytes room left answer =
+-- what a reader that stands here answers where these bytes are left, with what the room then holds, what is left
+-- then, and where it stands
+abbrev pub Answers : PcapStage → List ℕ → List ℕ → Option (List ℕ) → PcapStage → Answer → Type 0
+Answers stage.Start bytes room left after answer = AnswersStart bytes room left after answer
+Answers (stage.Within order count offset) bytes room left after answer =
     AnswersWithin order count offset bytes room left answer
-Answers (stage.Ended last) bytes room left answer = (answer ≡ last) × (left ≡ Some bytes)
+Answers (stage.Ended last) bytes room left after answer = (answer ≡ last) × (left ≡ Some bytes)
 
 -- it ended
 abbrev pub HasEnded : PcapStage → Type 0
@@ -139,3 +168,15 @@ EndsSource (Err e) left = ⊤
 pub record HasReadCause {T : Type 0} (old new : Seen) (answer : Result T PcapRefusal) : Type 0 where
   pub failed : answer ≡ Err refusal.ReadFault → new.faults ≡ next_count old.faults
   pub kept : answer ≢ Err refusal.ReadFault → new.faults ≡ old.faults
+
+-- where a reader may stand: behind at most 2^48 packets of at most 262,160 bytes each
+abbrev pub IsPlaced : PcapStage → Type 0
+IsPlaced stage.Start = ⊤
+IsPlaced (stage.Within order count offset) = (count ≤ 2 ^ 48) × (offset ≤ 24 + 262160 * count)
+IsPlaced (stage.Ended last) = IsNoPacket last
+
+-- a packet has at most 262,144 bytes, and comes only behind fewer than 2^48 others
+abbrev pub KeepsLimits : ℕ → Answer → Type 0
+KeepsLimits count (Ok (next.Packet at len)) = (len ≤ 262144) × (count < 2 ^ 48)
+KeepsLimits count (Ok next.End) = ⊤
+KeepsLimits count (Err e) = ⊤

@@ -4,10 +4,12 @@
 mod header;
 mod packet_reader;
 mod payload;
+mod pcap_reader;
 mod read_ahead;
 mod reading;
 
 pub use capture_spec::{ByteOrder, Passed, PcapKind};
 pub use payload::{Payload, Sender, read_payload};
+pub use pcap_reader::PcapReader;
 pub use reading::{PcapNext, PcapRefusal, PcapStage};
 pub use sflow_io::{Memory, Source};
