@@ -13,3 +13,6 @@ pub use payload::{Payload, Sender, read_payload};
 pub use pcap_reader::PcapReader;
 pub use reading::{PcapNext, PcapRefusal, PcapStage};
 pub use sflow_io::{Memory, Source};
+
+#[cfg(test)]
+mod tests;
