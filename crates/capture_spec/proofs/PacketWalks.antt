@@ -164,3 +164,42 @@ pub read_back : (most : ℕ) (order : ByteOrder) (offset : ℕ) (bytes : List �
 read_back most order offset bytes (Ok packets) fewer h = packets_back packets most order offset bytes fewer h
 read_back most order offset bytes (Err fault) fewer h =
     break_back h.packets most order offset bytes h.rest fault.0 fault.1 fewer h.before h.ends h.place
+
+-- ---- the size of a packet at the front
+
+-- where a packet stands, its words and its captured bytes are there
+abbrev Sized : ByteOrder → List ℕ → Front → Type 0
+Sized order rest Stops = Unit {0}
+Sized order rest (Holds p more) = 16 + captured_at order rest ≤ length rest
+Sized order rest EndsWithin = Unit {0}
+Sized order rest IsTooLong = Unit {0}
+
+bytes_sized : (order : ByteOrder) (arrival : ℕ) (rest : List ℕ) → 16 ≤ length rest
+    → Sized order rest (front_of_bytes arrival (captured_at order rest) (drop 16 rest))
+unfolding front_of_bytes
+bytes_sized order arrival rest long =
+    let captured : ℕ = captured_at order rest in
+    let p : Packet = record { arrival = arrival; bytes = take captured (drop 16 rest) } in
+    cond_both (nat_lt (length (drop 16 rest)) captured) EndsWithin (Holds p (drop captured (drop 16 rest)))
+    (Sized order rest) (λ _. tt)
+    (λ there. omega (arith, long, ltb-false (length (drop 16 rest)) captured there, length-drop 16 rest))
+
+packet_sized : (order : ByteOrder) (rest : List ℕ) → Sized order rest (front_of_packet order rest)
+unfolding front_of_packet
+packet_sized order rest =
+    let whole : Front = front_of_bytes (arrival_at order rest) (captured_at order rest) (drop 16 rest) in
+    let third : Front = if nat_lt (length rest) 16 then EndsWithin else whole in
+    let second : Front = if nat_lt most_captured (captured_at order rest) then IsTooLong else third in
+    cond_both (nat_lt (length rest) 12) EndsWithin second (Sized order rest) (λ _. tt)
+    (λ _. cond_both (nat_lt most_captured (captured_at order rest)) IsTooLong third (Sized order rest) (λ _. tt)
+    (λ _. cond_both (nat_lt (length rest) 16) EndsWithin whole (Sized order rest) (λ _. tt)
+    (λ long. bytes_sized order (arrival_at order rest) rest (ltb-false (length rest) 16 long))))
+
+pub holds_size : (order : ByteOrder) (rest : List ℕ) (p : Packet) (more : List ℕ) → front_of order rest ≡ Holds p more
+    → 16 + captured_at order rest ≤ length rest
+unfolding front_of
+holds_size order [] p more e = absurd (stops_holds p more e)
+  where
+    stops_holds : (p : Packet) (more : List ℕ) → Stops ≡ Holds p more → ⊥
+    stops_holds p more e = cc
+holds_size order (b ∷ bs) p more e = subst (Sized order (b ∷ bs)) e (packet_sized order (b ∷ bs))

@@ -1,3 +1,4 @@
 pub mod PacketFronts
 pub mod Headers
 pub mod Begins
+pub mod PacketFaults

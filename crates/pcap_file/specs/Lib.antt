@@ -1,2 +1,3 @@
 pub mod Taken
 pub mod PcapAnswers
+pub mod PcapFaults

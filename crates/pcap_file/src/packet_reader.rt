@@ -1,5 +1,8 @@
 // A packet, read from its first byte on.
-ghost use Rattle.std.specs.Prelude.{◌≡◌, ◌+◌, ◌^◌, ◌<◌, ◌≤◌, ℕ, List, Some, length, drop};
+ghost use Rattle.std.specs.Prelude.{◌≡◌, ◌+◌, ◌^◌, ◌<◌, ◌≤◌, ℕ, List, Some, Err, length, drop};
+ghost use Rattle.sflow_io.specs.ReadFaults.{StopsWithin};
+ghost use Rattle.pcap_file.specs.declared.reading.PcapRefusal.TheVariants.{ReadFault};
+ghost use Rattle.pcap_file.specs.PcapFaults.{StopsInPacket};
 ghost use Rattle.capture_spec.specs.PcapFiles.{word_of, arrival_at, captured_at, front_of, front_of_bytes};
 ghost use Rattle.sflow_io.specs.CaptureAnswers.{unread};
 ghost use Rattle.pcap_file.specs.PcapAnswers.{AnswersFront, AnswersLast, EndsSource, HasReadCause, IsNoPacket, IsShortPacket};
@@ -50,6 +53,7 @@ fn read_bytes<S: Source>(
     ensures short { IsShortPacket result }
     ensures at_end { EndsSource result (S.seen source.new).told }
     ensures cause { HasReadCause (S.seen source.old) (S.seen source.new) result }
+    ensures stops { result ≡ Err ReadFault → StopsWithin (unread ahead.old (S.seen source.old)) (S.seen source.new).told len }
 {
     let Ok(count) = ahead.read_most(source, &mut room[..len]) else {
         return Err(PcapRefusal::ReadFault);
@@ -78,6 +82,7 @@ pub(crate) fn read_packet<S: Source>(
     ensures short { IsShortPacket result }
     ensures at_end { EndsSource result (S.seen source.new).told }
     ensures cause { HasReadCause (S.seen source.old) (S.seen source.new) result }
+    ensures stops { result ≡ Err ReadFault → StopsInPacket order (unread ahead.old (S.seen source.old)) (S.seen source.new).told }
 {
     let mut head = [0u8; 16];
     let Ok(count) = ahead.read_most(source, &mut head) else {
@@ -119,6 +124,7 @@ pub(crate) fn read_end<S: Source>(
     ensures none { IsNoPacket result }
     ensures at_end { EndsSource result (S.seen source.new).told }
     ensures cause { HasReadCause (S.seen source.old) (S.seen source.new) result }
+    ensures stops { result ≡ Err ReadFault → StopsWithin (unread ahead.old (S.seen source.old)) (S.seen source.new).told 1 }
 {
     let mut byte = [0u8; 1];
     match ahead.read_most(source, &mut byte) {

@@ -1,4 +1,7 @@
-ghost use Rattle.std.specs.Prelude.{◌≡◌, ◌≤◌, ℕ, List, Some, length, IfOk};
+ghost use Rattle.std.specs.Prelude.{◌≡◌, ◌≤◌, ℕ, List, Some, Err, length, IfOk};
+ghost use Rattle.capture_spec.specs.declared.byte_order.ByteOrder.{ByteOrder};
+ghost use Rattle.pcap_file.specs.declared.reading.PcapRefusal.TheVariants.{ReadFault};
+ghost use Rattle.pcap_file.specs.PcapFaults.{StopsInPacket};
 ghost use Rattle.pcap_file.specs.declared.reading.PcapStage.TheVariants.{Within, Ended};
 ghost use Rattle.sflow_io.specs.CaptureAnswers.{unread};
 ghost use Rattle.pcap_file.specs.PcapAnswers.{Answer, Answers, AnswersWithin, EndsSource, HasEnded, HasReadCause, IsFresh, IsPlaced, IsShortPacket, IsStageAfter, KeepsLimits, ReaderState, stage_after};
@@ -74,6 +77,10 @@ impl PcapReader {
             → (self.new ≡ self.old) × (source.new ≡ source.old) × (room.new ≡ room.old) }
         ensures cause { ¬ (HasEnded self.old.stage)
             → HasReadCause (S.seen source.old) (S.seen source.new) result }
+
+        // At a read fault behind whole packets none has left the source that wasn't given.
+        ensures stops { (order : ByteOrder) (count offset : ℕ) → self.old.stage ≡ Within order count offset
+            → result ≡ Err ReadFault → StopsInPacket order (unread self.old.held (S.seen source.old)) (S.seen source.new).told }
     {
         match self.stage {
             PcapStage::Start => match read_header(&mut self.ahead, source) {
@@ -110,6 +117,8 @@ impl PcapReader {
         ensures length { IsShortPacket result }
         ensures at_end { EndsSource result (S.seen source.new).told }
         ensures cause { HasReadCause (S.seen source.old) (S.seen source.new) result }
+        ensures stops { result ≡ Err ReadFault
+            → StopsInPacket order (unread self.old.held (S.seen source.old)) (S.seen source.new).told }
     {
         let answer = read_within(&mut self.ahead, source, room, order, count, offset);
         self.stage = stage_behind(order, count, offset, answer);
@@ -134,6 +143,7 @@ fn read_within<S: Source>(
     ensures length { IsShortPacket result }
     ensures at_end { EndsSource result (S.seen source.new).told }
     ensures cause { HasReadCause (S.seen source.old) (S.seen source.new) result }
+    ensures stops { result ≡ Err ReadFault → StopsInPacket order (unread ahead.old (S.seen source.old)) (S.seen source.new).told }
 {
     if count < MOST_PACKETS {
         read_packet(ahead, source, room, order, offset)
