@@ -1,3 +1,6 @@
+pub mod Items
+pub mod BrokenItems
+pub mod VersionedCaptures
 pub mod Payloads
 pub mod PayloadRows
 pub mod PcapFiles

@@ -4,13 +4,15 @@
 #![tactic(auto)]
 
 mod byte_order;
+mod capture_version;
 mod passed;
 mod payload_laws;
-mod pcap_kind;
 mod pcap_laws;
+mod pcap_output;
 
 pub use byte_order::ByteOrder;
+pub use capture_version::CaptureVersion;
 pub use passed::Passed;
 pub use payload_laws::{payload_is_a_range, payload_rows, payload_rules};
-pub use pcap_kind::PcapKind;
 pub use pcap_laws::{one_pcap_reading, pcap_reading_is_the_file, pcap_rows};
+pub use pcap_output::PcapOutput;
