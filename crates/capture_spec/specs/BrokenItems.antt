@@ -1,7 +1,7 @@
 -- How an item of a capture of version 2 is broken: the rest of the input, from the first byte of the item on, behind so
 -- many entries; the offset of the fault within the item; and its kind. Bytes are met in order, and a word is met when its
 -- four bytes are there.
-use Rattle.std.specs.Prelude.{◌≡◌, ◌≢◌, ℕ, ◌+◌, ◌^◌, ◌<◌, ◌≤◌, List, ◌∷◌, ◌++◌, length}
+use Rattle.std.specs.Prelude.{◌≡◌, ◌≢◌, ℕ, ◌+◌, ◌^◌, ◌<◌, List, ◌∷◌, ◌++◌, length}
 use Rattle.wire_spec.specs.declared.input_kind.InputKind.{InputKind}
 use Rattle.wire_spec.specs.declared.input_kind.InputKind.TheVariants.{Cut, Long, Padding, Item, Address, Port, Count, After}
 use Rattle.wire_spec.specs.Bytes.{BeginsWith}

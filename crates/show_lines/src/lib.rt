@@ -12,7 +12,7 @@ mod path;
 mod record;
 mod sample;
 
-pub use entry::{put_entry, show_entry};
+pub use entry::{put_entry, put_received, show_entry};
 pub use laws::{shown_as_the_grammar_says, worked_entries, worked_records};
 
 #[cfg(test)]
