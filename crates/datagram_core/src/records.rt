@@ -5,6 +5,7 @@ ghost use Rattle.data_format.specs.Views.{FrameView, IsFormat, frame_view};
 ghost use Rattle.datagram_core.specs.Records.{IsRecordOf, kind_by, table_of};
 ghost use Rattle.datagram_core.specs.Kinds.{HasKind};
 
+use crate::record::{BY_CHECK, TO_GIVE};
 use data_format::{BodyCheck, Fault, Frame, Frames};
 use rec_counters::{EthernetCounters, IfCounters, VlanCounters};
 use rec_extended::{GatewayRec, RouterRec, SwitchRec};
@@ -27,7 +28,7 @@ impl BodyCheck for RecordKind {
     ghost test = { λ kind p f. table_test p (table_of kind) f };
 
     fn check(&self, frame: Frame<'_>, pad: Pad) -> Result<(), Fault> {
-        Record::read(*self, frame, pad)?;
+        Record::read::<BY_CHECK>(*self, frame, pad)?;
         Ok(())
     }
 }
@@ -124,7 +125,7 @@ impl<'a> Records<'a> {
     {
         let kind = self.kind();
         let frame = self.next_frame()?;
-        match Record::read(kind, frame, Pad::Any) {
+        match Record::read::<TO_GIVE>(kind, frame, Pad::Any) {
             Ok(found) => Some(found),
             Err(_) => unreachable!(),
         }

@@ -6,46 +6,46 @@ use Rattle.datagram_core.proofs.RecordRows.{row_read, interface_row, ethernet_co
 use Rattle.datagram_core.proofs.record.read_counters.Goals as goal
 
 pub returns-then-frame-ne0-clause-exact : goal.returns-then-frame-ne0-clause-exact
-returns-then-frame-ne0-clause-exact c =
+returns-then-frame-ne0-clause-exact g c =
     no_counters_row c.args.pad (format_word c.args.frame.format) (body_of (frame_view c.args.frame))
     (omega arith) (omega arith) (omega arith)
 
 pub returns-in_default-clause-exact : goal.returns-in_default-clause-exact
-returns-in_default-clause-exact c =
+returns-in_default-clause-exact g c =
     no_counters_row c.args.pad (format_word c.args.frame.format) (body_of (frame_view c.args.frame))
     (omega arith) (omega arith) (omega arith)
 
 pub returns-in_ok-read-in-1-clause-exact : goal.returns-in_ok-read-in-1-clause-exact
-returns-in_ok-read-in-1-clause-exact c =
+returns-in_ok-read-in-1-clause-exact g c =
     row_read interface_content c.args.pad (format_word c.args.frame.format) (body_of (frame_view c.args.frame))
     (Ok c.in_ok-read-in-1.field-0) interface_row (omega arith) c.in_ok-read-in-1.ensures.exact
 
 pub returns-in_err-read-in-1-clause-exact : goal.returns-in_err-read-in-1-clause-exact
-returns-in_err-read-in-1-clause-exact c =
+returns-in_err-read-in-1-clause-exact g c =
     let failed = err_from_is_err_and c.from_residual.result c.from_residual.ensures.1 in
     rw (failed.1, failed.2)
     (row_read interface_content c.args.pad (format_word c.args.frame.format) (body_of (frame_view c.args.frame))
     (Err c.in_err-read-in-1.field-0.0) interface_row (omega arith) c.in_err-read-in-1.ensures.exact)
 
 pub returns-in_ok-read-in-2-clause-exact : goal.returns-in_ok-read-in-2-clause-exact
-returns-in_ok-read-in-2-clause-exact c =
+returns-in_ok-read-in-2-clause-exact g c =
     row_read ethernet_content c.args.pad (format_word c.args.frame.format) (body_of (frame_view c.args.frame))
     (Ok c.in_ok-read-in-2.field-0) ethernet_counters_row (omega arith) c.in_ok-read-in-2.ensures.exact
 
 pub returns-in_err-read-in-2-clause-exact : goal.returns-in_err-read-in-2-clause-exact
-returns-in_err-read-in-2-clause-exact c =
+returns-in_err-read-in-2-clause-exact g c =
     let failed = err_from_is_err_and c.from_residual-in_err-read-in-2.result c.from_residual-in_err-read-in-2.ensures.1 in
     rw (failed.1, failed.2)
     (row_read ethernet_content c.args.pad (format_word c.args.frame.format) (body_of (frame_view c.args.frame))
     (Err c.in_err-read-in-2.field-0.0) ethernet_counters_row (omega arith) c.in_err-read-in-2.ensures.exact)
 
 pub returns-in_ok-read-in-5-clause-exact : goal.returns-in_ok-read-in-5-clause-exact
-returns-in_ok-read-in-5-clause-exact c =
+returns-in_ok-read-in-5-clause-exact g c =
     row_read vlan_content c.args.pad (format_word c.args.frame.format) (body_of (frame_view c.args.frame))
     (Ok c.in_ok-read-in-5.field-0) vlan_row (omega arith) c.in_ok-read-in-5.ensures.exact
 
 pub returns-in_err-read-in-5-clause-exact : goal.returns-in_err-read-in-5-clause-exact
-returns-in_err-read-in-5-clause-exact c =
+returns-in_err-read-in-5-clause-exact g c =
     let failed = err_from_is_err_and c.from_residual-in_err-read-in-5.result c.from_residual-in_err-read-in-5.ensures.1 in
     rw (failed.1, failed.2)
     (row_read vlan_content c.args.pad (format_word c.args.frame.format) (body_of (frame_view c.args.frame))

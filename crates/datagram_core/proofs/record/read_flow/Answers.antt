@@ -8,94 +8,94 @@ use Rattle.datagram_core.proofs.RecordRows.{row_read, raw_row, ethernet_row, ipv
 use Rattle.datagram_core.proofs.record.read_flow.Goals as goal
 
 pub returns-then-frame-ne0-clause-exact : goal.returns-then-frame-ne0-clause-exact
-returns-then-frame-ne0-clause-exact c =
+returns-then-frame-ne0-clause-exact g c =
     no_flow_row c.args.pad (format_word c.args.frame.format) (body_of (frame_view c.args.frame))
     (omega arith) (omega arith) (omega arith) (omega arith) (omega arith) (omega arith) (omega arith)
 
 pub returns-in_default-clause-exact : goal.returns-in_default-clause-exact
-returns-in_default-clause-exact c =
+returns-in_default-clause-exact g c =
     no_flow_row c.args.pad (format_word c.args.frame.format) (body_of (frame_view c.args.frame))
     (omega arith) (omega arith) (omega arith) (omega arith) (omega arith) (omega arith) (omega arith)
 
 pub returns-in_ok-read-in-1-clause-exact : goal.returns-in_ok-read-in-1-clause-exact
-returns-in_ok-read-in-1-clause-exact c =
+returns-in_ok-read-in-1-clause-exact g c =
     row_read raw_content c.args.pad (format_word c.args.frame.format) (body_of (frame_view c.args.frame))
     (Ok c.in_ok-read-in-1.field-0) raw_row (omega arith) c.in_ok-read-in-1.ensures.exact
 
 pub returns-in_err-read-in-1-clause-exact : goal.returns-in_err-read-in-1-clause-exact
-returns-in_err-read-in-1-clause-exact c =
+returns-in_err-read-in-1-clause-exact g c =
     let failed = err_from_is_err_and c.from_residual.result c.from_residual.ensures.1 in
     rw (failed.1, failed.2)
     (row_read raw_content c.args.pad (format_word c.args.frame.format) (body_of (frame_view c.args.frame))
     (Err c.in_err-read-in-1.field-0.0) raw_row (omega arith) c.in_err-read-in-1.ensures.exact)
 
 pub returns-in_ok-read-in-2-clause-exact : goal.returns-in_ok-read-in-2-clause-exact
-returns-in_ok-read-in-2-clause-exact c =
+returns-in_ok-read-in-2-clause-exact g c =
     row_read ethernet_content c.args.pad (format_word c.args.frame.format) (body_of (frame_view c.args.frame))
     (Ok c.in_ok-read-in-2.field-0) ethernet_row (omega arith) c.in_ok-read-in-2.ensures.exact
 
 pub returns-in_err-read-in-2-clause-exact : goal.returns-in_err-read-in-2-clause-exact
-returns-in_err-read-in-2-clause-exact c =
+returns-in_err-read-in-2-clause-exact g c =
     let failed = err_from_is_err_and c.from_residual-in_err-read-in-2.result c.from_residual-in_err-read-in-2.ensures.1 in
     rw (failed.1, failed.2)
     (row_read ethernet_content c.args.pad (format_word c.args.frame.format) (body_of (frame_view c.args.frame))
     (Err c.in_err-read-in-2.field-0.0) ethernet_row (omega arith) c.in_err-read-in-2.ensures.exact)
 
 pub returns-in_ok-read-in-3-clause-exact : goal.returns-in_ok-read-in-3-clause-exact
-returns-in_ok-read-in-3-clause-exact c =
+returns-in_ok-read-in-3-clause-exact g c =
     row_read ipv4_content c.args.pad (format_word c.args.frame.format) (body_of (frame_view c.args.frame))
     (Ok c.in_ok-read-in-3.field-0) ipv4_row (omega arith) c.in_ok-read-in-3.ensures.exact
 
 pub returns-in_err-read-in-3-clause-exact : goal.returns-in_err-read-in-3-clause-exact
-returns-in_err-read-in-3-clause-exact c =
+returns-in_err-read-in-3-clause-exact g c =
     let failed = err_from_is_err_and c.from_residual-in_err-read-in-3.result c.from_residual-in_err-read-in-3.ensures.1 in
     rw (failed.1, failed.2)
     (row_read ipv4_content c.args.pad (format_word c.args.frame.format) (body_of (frame_view c.args.frame))
     (Err c.in_err-read-in-3.field-0.0) ipv4_row (omega arith) c.in_err-read-in-3.ensures.exact)
 
 pub returns-in_ok-read-in-4-clause-exact : goal.returns-in_ok-read-in-4-clause-exact
-returns-in_ok-read-in-4-clause-exact c =
+returns-in_ok-read-in-4-clause-exact g c =
     row_read ipv6_content c.args.pad (format_word c.args.frame.format) (body_of (frame_view c.args.frame))
     (Ok c.in_ok-read-in-4.field-0) ipv6_row (omega arith) c.in_ok-read-in-4.ensures.exact
 
 pub returns-in_err-read-in-4-clause-exact : goal.returns-in_err-read-in-4-clause-exact
-returns-in_err-read-in-4-clause-exact c =
+returns-in_err-read-in-4-clause-exact g c =
     let failed = err_from_is_err_and c.from_residual-in_err-read-in-4.result c.from_residual-in_err-read-in-4.ensures.1 in
     rw (failed.1, failed.2)
     (row_read ipv6_content c.args.pad (format_word c.args.frame.format) (body_of (frame_view c.args.frame))
     (Err c.in_err-read-in-4.field-0.0) ipv6_row (omega arith) c.in_err-read-in-4.ensures.exact)
 
 pub returns-in_ok-read-in-1001-clause-exact : goal.returns-in_ok-read-in-1001-clause-exact
-returns-in_ok-read-in-1001-clause-exact c =
+returns-in_ok-read-in-1001-clause-exact g c =
     row_read switch_content c.args.pad (format_word c.args.frame.format) (body_of (frame_view c.args.frame))
     (Ok c.in_ok-read-in-1001.field-0) switch_row (omega arith) c.in_ok-read-in-1001.ensures.exact
 
 pub returns-in_err-read-in-1001-clause-exact : goal.returns-in_err-read-in-1001-clause-exact
-returns-in_err-read-in-1001-clause-exact c =
+returns-in_err-read-in-1001-clause-exact g c =
     let failed = err_from_is_err_and c.from_residual-in_err-read-in-1001.result c.from_residual-in_err-read-in-1001.ensures.1 in
     rw (failed.1, failed.2)
     (row_read switch_content c.args.pad (format_word c.args.frame.format) (body_of (frame_view c.args.frame))
     (Err c.in_err-read-in-1001.field-0.0) switch_row (omega arith) c.in_err-read-in-1001.ensures.exact)
 
 pub returns-in_ok-read-in-1002-clause-exact : goal.returns-in_ok-read-in-1002-clause-exact
-returns-in_ok-read-in-1002-clause-exact c =
+returns-in_ok-read-in-1002-clause-exact g c =
     row_read router_content c.args.pad (format_word c.args.frame.format) (body_of (frame_view c.args.frame))
     (Ok c.in_ok-read-in-1002.field-0) router_row (omega arith) c.in_ok-read-in-1002.ensures.exact
 
 pub returns-in_err-read-in-1002-clause-exact : goal.returns-in_err-read-in-1002-clause-exact
-returns-in_err-read-in-1002-clause-exact c =
+returns-in_err-read-in-1002-clause-exact g c =
     let failed = err_from_is_err_and c.from_residual-in_err-read-in-1002.result c.from_residual-in_err-read-in-1002.ensures.1 in
     rw (failed.1, failed.2)
     (row_read router_content c.args.pad (format_word c.args.frame.format) (body_of (frame_view c.args.frame))
     (Err c.in_err-read-in-1002.field-0.0) router_row (omega arith) c.in_err-read-in-1002.ensures.exact)
 
 pub returns-in_ok-read-in-1003-clause-exact : goal.returns-in_ok-read-in-1003-clause-exact
-returns-in_ok-read-in-1003-clause-exact c =
+returns-in_ok-read-in-1003-clause-exact g c =
     row_read gateway_content c.args.pad (format_word c.args.frame.format) (body_of (frame_view c.args.frame))
     (Ok c.in_ok-read-in-1003.field-0) gateway_row (omega arith) c.in_ok-read-in-1003.ensures.exact
 
 pub returns-in_err-read-in-1003-clause-exact : goal.returns-in_err-read-in-1003-clause-exact
-returns-in_err-read-in-1003-clause-exact c =
+returns-in_err-read-in-1003-clause-exact g c =
     let failed = err_from_is_err_and c.from_residual-in_err-read-in-1003.result c.from_residual-in_err-read-in-1003.ensures.1 in
     rw (failed.1, failed.2)
     (row_read gateway_content c.args.pad (format_word c.args.frame.format) (body_of (frame_view c.args.frame))
