@@ -14,6 +14,7 @@ use data_format::{Fault, Frame, RecordBody};
 use rec_counters::{EthernetCounters, IfCounters, VlanCounters};
 use rec_extended::{GatewayRec, RouterRec, SwitchRec};
 use rec_headers::{EthernetRec, Ipv4Rec, Ipv6Rec, RawHeader};
+use rec_more::{MplsRec, NatRec, ProcessorCounters, UrlRec, UserRec};
 use wire_spec::Pad;
 
 /// A record is read by its check, which has no use for the value.
@@ -65,6 +66,10 @@ fn read_flow<'a, const FOR: usize>(frame: Frame<'a>, pad: Pad) -> Result<Record<
         1001 => Ok(Record::Switch(SwitchRec::read(frame, pad)?)),
         1002 => Ok(Record::Router(RouterRec::read(frame, pad)?)),
         1003 => Ok(Record::Gateway(GatewayRec::read(frame, pad)?)),
+        1004 => Ok(Record::User(UserRec::read(frame, pad)?)),
+        1005 => Ok(Record::Url(UrlRec::read(frame, pad)?)),
+        1006 => Ok(Record::Mpls(MplsRec::read(frame, pad)?)),
+        1007 => Ok(Record::Nat(NatRec::read(frame, pad)?)),
         _ => Ok(Record::Other(frame)),
     }
 }
@@ -85,6 +90,7 @@ fn read_counters<'a, const FOR: usize>(frame: Frame<'a>, pad: Pad) -> Result<Rec
         1 => Ok(Record::IfCounters(IfCounters::read(frame, pad)?)),
         2 => Ok(Record::EthernetCounters(EthernetCounters::read(frame, pad)?)),
         5 => Ok(Record::VlanCounters(VlanCounters::read(frame, pad)?)),
+        1001 => Ok(Record::Processor(ProcessorCounters::read(frame, pad)?)),
         _ => Ok(Record::Other(frame)),
     }
 }
