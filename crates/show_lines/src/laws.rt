@@ -14,6 +14,7 @@ ghost use Rattle.show_lines.specs.Lines.{entry_line, fault_line, sent_line};
 ghost use Rattle.show_lines.specs.Shown.{entry_text, received_text, outcome_of, outcome_text, datagram_text, record_text};
 ghost use Rattle.show_lines.specs.Worked.{flow_entry, flow_lines, expanded_entry, expanded_lines, cut_entry, cut_lines, tail_entry, tail_lines, other_entry, other_lines};
 ghost use Rattle.show_lines.specs.WorkedRecords.{flow_record_lines, counter_record_lines, switch_entry, switch_lines, gateway_entry, gateway_lines, no_path_entry, no_path_lines, interface_entry, interface_lines};
+ghost use Rattle.show_lines.specs.WorkedFurther.{user_entry, user_lines, user_tail_entry, user_tail_lines, url_tail_entry, url_tail_lines, cut_url_entry, cut_url_lines, mpls_entry, mpls_lines, nat_entry, nat_lines, other_nat_lines, processor_entry, processor_lines};
 
 /// An entry is shown with the line of a fault exactly where its bytes have this fault in the grammar, and else with
 /// the lines of the one datagram that they are.
@@ -51,4 +52,17 @@ pub fn worked_records()
     ensures gateway { entry_text 1 gateway_entry ≡ gateway_lines }
     ensures no_path { entry_text 1 no_path_entry ≡ no_path_lines }
     ensures interface { entry_text 1 interface_entry ≡ interface_lines }
+{}
+
+/// Entries with users, URLs, label stacks, translated addresses and the load of a processor: with a tail and without one,
+/// and with a fault.
+pub fn worked_further_records()
+    ensures user { entry_text 1 user_entry ≡ user_lines }
+    ensures user_tail { entry_text 1 user_tail_entry ≡ user_tail_lines }
+    ensures url_tail { entry_text 1 url_tail_entry ≡ url_tail_lines }
+    ensures url_fault { entry_text 1 cut_url_entry ≡ cut_url_lines }
+    ensures mpls { entry_text 1 mpls_entry ≡ mpls_lines }
+    ensures nat { entry_text 1 (nat_entry 1) ≡ nat_lines }
+    ensures nat_fault { entry_text 1 (nat_entry 3) ≡ other_nat_lines }
+    ensures processor { entry_text 1 processor_entry ≡ processor_lines }
 {}

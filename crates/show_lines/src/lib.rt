@@ -4,6 +4,7 @@
 mod counters;
 mod entry;
 mod extended;
+mod further;
 mod headers;
 mod laws;
 mod lines;
@@ -13,7 +14,7 @@ mod record;
 mod sample;
 
 pub use entry::{put_entry, put_received, show_entry};
-pub use laws::{shown_as_the_grammar_says, worked_entries, worked_records};
+pub use laws::{shown_as_the_grammar_says, worked_entries, worked_further_records, worked_records};
 
 #[cfg(test)]
 mod tests;

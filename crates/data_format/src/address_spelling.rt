@@ -5,7 +5,7 @@ ghost use Rattle.wire_spec.specs.Spelling.{spell, padded, IsLawful};
 ghost use Rattle.wire_spec.specs.Tables.{agent_address};
 ghost use Rattle.data_format.specs.Addresses.{address_of};
 
-use data_format::Address;
+use crate::Address;
 
 /// The word that says the kind of an address, and its bytes.
 #[derive(Clone, Copy)]
