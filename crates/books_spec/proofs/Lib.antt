@@ -4,3 +4,4 @@ pub mod Keys
 pub mod Books
 pub mod Entered
 pub mod Adding
+pub mod Generations
