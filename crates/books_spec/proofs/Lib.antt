@@ -5,3 +5,6 @@ pub mod Books
 pub mod Entered
 pub mod Adding
 pub mod Generations
+pub mod GenerationViews
+pub mod NoResets
+pub mod Placed

@@ -9,6 +9,7 @@
 pub mod book_laws;
 pub mod book_rows;
 mod booked;
+pub mod generation_laws;
 pub mod generation_rows;
 pub mod laws;
 mod ledger_view;

@@ -10,3 +10,4 @@ pub mod Gaps
 pub mod Stretches
 pub mod Restarts
 pub mod Rises
+pub mod CounterRises

@@ -11,6 +11,8 @@ ghost use Rattle.count_spec.specs.Parts.{parts, between};
 ghost use Rattle.count_spec.specs.Stretches.{stretches, stale_among};
 ghost use Rattle.count_spec.specs.declared.stretch_place.StretchPlace.{StretchPlace};
 ghost use Rattle.count_spec.specs.Boots.{Stamp, boot_mark, sequences, newest_boot_mark, is_near_multiple};
+ghost use Rattle.count_spec.specs.CounterRise.{counter_rise};
+ghost use Rattle.count_spec.specs.TrueRise.{AreMonotone, RiseByLess, shown_by};
 ghost use Rattle.count_spec.specs.Rise.{NumberedValue, numbers, value_at_greatest, value_at_least, rise_between, rise, first_values, shown, AreSlow};
 
 /// A mark stands for one number: the one from `top - 2^31` up to and without `top + 2^31` that shows it.
@@ -144,4 +146,25 @@ pub fn first_values_are_counted<T>()
 pub fn rise_is_the_true_difference()
     ensures { (values : List NumberedValue) → AreDistinct (numbers values) → AreSlow values →
         rise (map shown values) + value_at_least values ≡ value_at_greatest values }
+{}
+
+/// The rise of a 32-bit value is that of a counter of 32 bits.
+pub fn counters_rise_alike()
+    ensures { (values : List NumberedValue) → counter_rise (2 ^ 32) values ≡ rise values }
+{}
+
+/// Values rise slowly exactly where they don't fall and rise by less than 2^32.
+pub fn slowly_is_without_a_fall()
+    ensures { (values : List NumberedValue) → AreSlow values ↔ (AreMonotone values × RiseByLess (2 ^ 32) values) }
+{}
+
+/// Where the true values of a counter don't fall, and rise by less than its modulus, the rise of what is shown of them
+/// is the true value at the greatest number less that at the least: for counters of 32 bits, and for those of 64.
+pub fn counter_rise_is_the_true_difference()
+    ensures of_32_bits { (values : List NumberedValue) → AreDistinct (numbers values) → AreMonotone values
+        → RiseByLess (2 ^ 32) values
+        → counter_rise (2 ^ 32) (map (shown_by (2 ^ 32)) values) + value_at_least values ≡ value_at_greatest values }
+    ensures of_64_bits { (values : List NumberedValue) → AreDistinct (numbers values) → AreMonotone values
+        → RiseByLess (2 ^ 64) values
+        → counter_rise (2 ^ 64) (map (shown_by (2 ^ 64)) values) + value_at_least values ≡ value_at_greatest values }
 {}
