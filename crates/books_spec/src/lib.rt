@@ -15,6 +15,7 @@ pub mod laws;
 mod ledger_view;
 mod limits;
 mod reading;
+pub mod parting_laws;
 pub mod rows;
 mod sample_place;
 mod source_view;
