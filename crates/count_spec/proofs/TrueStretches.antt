@@ -3,9 +3,8 @@ use Rattle.std.proofs.Common.{◌≡◌, ◌≢◌, ℕ, ◌<◌, ◌≤◌, max
 use Rattle.std.specs.Prelude.{nat_lt, ◌==◌}
 use Rattle.std.specs.List.{AllByRecursion}
 use Rattle.std.proofs.lemmas.Bool.{cases_lt, lt-ltb, le-ltb, eq-eqb, ne_eqb}
-use Rattle.count_spec.specs.Stretches.{placed, stretches, stale_among, with_stale}
+use Rattle.count_spec.specs.Stretches.{placed, with_stale}
 use Rattle.count_spec.specs.TrueStretches.{newest_index, is_past, stretch_of, indexes, true_stretches, past_items, true_place}
-use Rattle.count_spec.specs.declared.stretch_place.StretchPlace.{StretchPlace}
 use Rattle.count_spec.specs.declared.stretch_place.StretchPlace.TheVariants.{Current, Next, Stale}
 
 -- each is less
