@@ -1,11 +1,11 @@
 -- Places stand in one order, and the greatest of them is the greatest.
-use Rattle.std.proofs.Common.{◌≡◌, ◌≢◌, ℕ, ◌<◌, ◌⊎◌, inl, inr, Bool, true, false, cond, ◌||◌, ◌&&◌, List, [], ◌∷◌, ℤ, ◌≤ℤ◌, ◌<ℤ◌, refl, sym, ap, ◌∙◌, true≢false, arith}
+use Rattle.std.proofs.Common.{◌≡◌, ◌<◌, ◌⊎◌, inl, inr, Bool, true, false, cond, ◌||◌, ◌&&◌, List, [], ◌∷◌, ◌<ℤ◌, refl, sym, ap, ◌∙◌, true≢false, arith}
 use Rattle.std.specs.Prelude.{int_lt, nat_lt}
 use Rattle.std.specs.Ordering.{int_eq}
 use Rattle.std.specs.List.{AllByRecursion}
 use Rattle.std.proofs.lemmas.Int.{ints}
 use Rattle.std.proofs.lemmas.Bool.{cases_Bool, cases_lt, lt-ltb, le-ltb}
-use Rattle.count_spec.proofs.Integers.{int_lt-true, int_lt-false, int_eq-same, int_eq-other, int_eq-is}
+use Rattle.count_spec.proofs.Integers.{int_lt-true, int_lt-false, int_eq-same, int_eq-is}
 use Rattle.books_spec.specs.declared.sample_place.SamplePlace.{SamplePlace}
 use Rattle.books_spec.specs.Generations.{is_before, later, greatest_place}
 

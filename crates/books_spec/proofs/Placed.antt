@@ -1,5 +1,5 @@
 -- Samples with their places, and what is left of them without.
-use Rattle.std.proofs.Common.{◌≡◌, ℕ, suc, Bool, true, false, cond, Option, Some, None, List, [], ◌∷◌, length, map, ℤ, refl, sym, ap, ◌∙◌, arith}
+use Rattle.std.proofs.Common.{◌≡◌, ℕ, suc, Bool, true, false, Option, Some, None, List, [], ◌∷◌, length, map, ℤ, refl, sym, ap, ◌∙◌, arith}
 use Rattle.std.specs.List.{filter_map, cons_option, count_by, sum_by}
 use Rattle.std.proofs.lemmas.List.Sums.{sum_by-cons}
 use Rattle.count_spec.specs.Windows.{answer, counted}
@@ -9,12 +9,11 @@ use Rattle.count_spec.specs.declared.entered.Entered.{Entered}
 use Rattle.count_spec.specs.declared.entered.Entered.TheVariants.{First, Repeat, Late}
 use Rattle.books_spec.specs.declared.limits.Limits.{Limits}
 use Rattle.books_spec.specs.declared.reading.SampleReading.{SampleReading}
-use Rattle.books_spec.specs.declared.sample_place.SamplePlace.{SamplePlace}
 use Rattle.books_spec.specs.Items.{SourceId, Sample, Datagram, stamp_of, Item, Source}
 use Rattle.books_spec.specs.Listing.{same_stream, same_source, among}
 use Rattle.books_spec.specs.Views.{figures_over, marks_in, rise_over, last_value, view_with}
 use Rattle.books_spec.specs.Books.{onto, taken_of, samples_at, first_samples, reading_of, readings, source_boots, stream_boots, listed_streams, sources_of, readings_view, mark_in, pool_in, drops_in, rate_in}
-use Rattle.books_spec.specs.SourceViews.{PlacedReading, placed_mark, placed_pool, placed_drops, placed_rate, stretches_view}
+use Rattle.books_spec.specs.SourceViews.{PlacedReading, stretches_view}
 use Rattle.books_spec.proofs.Entered.{readings-are-entered}
 use Rattle.books_spec.specs.PlacedSamples.{PlacedSample, placed_from, placed_at, first_placed, read_at, placed_reading_of, placed_readings, placed_boots}
 

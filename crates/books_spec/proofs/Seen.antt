@@ -2,8 +2,6 @@
 use Rattle.std.proofs.Common.{◌≡◌, ℕ, Bool, true, false, cond, Some, None, List, [], ◌∷◌, map, refl, sym, ap, ◌∙◌}
 use Rattle.std.specs.List.{filter_map, cons_option}
 use Rattle.books_spec.specs.declared.limits.Limits.{Limits}
-use Rattle.books_spec.specs.declared.reading.SampleReading.{SampleReading}
-use Rattle.books_spec.specs.declared.sample_place.SamplePlace.{SamplePlace}
 use Rattle.books_spec.specs.Items.{SourceId, Sample, Of, Carrying, Other, Datagram, Item, Source}
 use Rattle.books_spec.specs.Listing.{same_id}
 use Rattle.books_spec.specs.Books.{reading_of, stream_boots}
