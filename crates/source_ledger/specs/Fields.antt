@@ -22,7 +22,7 @@ marks_state l = record {
 -- what each ledger of marks keeps
 pub record IsMarkLedger (l : marks.Inside) : Type 0 where
   pub width_from : 1 ≤ l.width
-  pub width_to : l.width ≤ 1024
+  pub width_to : l.width ≤ 8192
   pub width_same : l.window.width ≡ l.width
   pub few : l.entered ≤ 2 ^ 62
   pub issued_few : l.issued + 2 ^ 32 * l.window.entered ≤ 2 ^ 32 * l.entered

@@ -16,13 +16,13 @@ use std::marker::Model;
 /// and of the drops, and the sampling rate.
 #[derive(Debug, Drop)]
 pub struct FlowLedger {
-    numbers: BootLedger,
     /// The sample pool, in packets.
     pool: Rise,
     /// The drops, in packets.
     drops: Rise,
     /// The sampling rate at the greatest number of the last boot; 0 where there is none.
     rate: u32,
+    numbers: BootLedger,
 }
 
 impl Model for FlowLedger {
@@ -38,20 +38,20 @@ impl Model for FlowLedger {
 }
 
 impl FlowLedger {
-    /// An empty ledger, of boot 0. The width of its windows is from 1 to 1,024.
+    /// An empty ledger, of boot 0. The width of its windows is from 1 to 8,192.
     pub fn open(width: u32) -> FlowLedger
         requires width_from { 1 ≤ width }
-        requires width_to { width ≤ 1024 }
+        requires width_to { width ≤ 8192 }
         ensures stands { StandsFor result [] }
         ensures width { result.numbers.marks.width ≡ width }
         ensures boot { result.numbers.boot ≡ 0 }
         ensures entered { result.numbers.marks.entered ≡ 0 }
     {
         FlowLedger {
-            numbers: BootLedger::open(width),
             pool: Rise::none(),
             drops: Rise::none(),
             rate: 0,
+            numbers: BootLedger::open(width),
         }
     }
 

@@ -15,18 +15,18 @@ pub struct MarkLedger {
     width: u32,
     /// How many marks were entered.
     entered: u64,
-    /// How many numbers were issued in the closed stretches.
-    issued: u128,
-    /// How many of them were received.
-    received: u64,
-    /// How many of them are lost, with those that were pending when their stretch was closed.
-    lost: u128,
     /// How many marks of all stretches brought a number once more.
     repeated: u64,
     /// How many marks of all stretches came too late.
     late: u64,
     /// The numbers of the current stretch.
     window: Window,
+    /// How many numbers were issued in the closed stretches.
+    issued: u128,
+    /// How many of them were received.
+    received: u64,
+    /// How many of them are lost, with those that were pending when their stretch was closed.
+    lost: u128,
 }
 
 impl Model for MarkLedger {
@@ -42,10 +42,10 @@ impl Model for MarkLedger {
 }
 
 impl MarkLedger {
-    /// Nothing was entered. The width is from 1 to 1,024.
+    /// Nothing was entered. The width is from 1 to 8,192.
     pub fn open(width: u32) -> MarkLedger
         requires width_from { 1 ≤ width }
-        requires width_to { width ≤ 1024 }
+        requires width_to { width ≤ 8192 }
         ensures stands { StandsFor result [] }
         ensures width { result.width ≡ width }
         ensures entered { result.entered ≡ 0 }
@@ -53,12 +53,12 @@ impl MarkLedger {
         MarkLedger {
             width,
             entered: 0,
-            issued: 0,
-            received: 0,
-            lost: 0,
             repeated: 0,
             late: 0,
             window: Window::open(width),
+            issued: 0,
+            received: 0,
+            lost: 0,
         }
     }
 

@@ -18,10 +18,10 @@ pub enum SourceRecord {
 }
 
 impl SourceRecord {
-    /// Nothing came yet from a source of flow samples. The width of its windows is from 1 to 1,024.
+    /// Nothing came yet from a source of flow samples. The width of its windows is from 1 to 8,192.
     pub fn open_flow(width: u32) -> SourceRecord
         requires width_from { 1 ≤ width }
-        requires width_to { width ≤ 1024 }
+        requires width_to { width ≤ 8192 }
         ensures stands { StandsFor result [] }
         ensures kind { is_flow result ≡ true }
         ensures width { width_of result ≡ width }
@@ -31,10 +31,10 @@ impl SourceRecord {
         SourceRecord::Flow(FlowLedger::open(width))
     }
 
-    /// Nothing came yet from a source of counters samples. The width of its windows is from 1 to 1,024.
+    /// Nothing came yet from a source of counters samples. The width of its windows is from 1 to 8,192.
     pub fn open_counters(width: u32) -> SourceRecord
         requires width_from { 1 ≤ width }
-        requires width_to { width ≤ 1024 }
+        requires width_to { width ≤ 8192 }
         ensures stands { StandsFor result [] }
         ensures kind { is_flow result ≡ false }
         ensures width { width_of result ≡ width }
