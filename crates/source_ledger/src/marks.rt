@@ -1,6 +1,6 @@
-ghost use Rattle.std.specs.Prelude.{◌≡◌, ℕ, ◌+◌, ◌^◌, ◌<◌, ◌≤◌, cond, List, [], ◌∷◌, length};
+ghost use Rattle.std.specs.Prelude.{◌≡◌, ℕ, ◌+◌, ◌^◌, ◌<◌, ◌≤◌, cond, int_le, List, [], ◌∷◌, length};
 ghost use Rattle.std.specs.List.{sum_by};
-ghost use Rattle.count_spec.specs.Windows.{answer, counted, is_repeat, is_late};
+ghost use Rattle.count_spec.specs.Windows.{answer, counted, near, greatest, is_repeat, is_late};
 ghost use Rattle.books_spec.specs.Views.{plain_view};
 ghost use Rattle.source_ledger.specs.Marks.{StandsFor};
 
@@ -77,6 +77,14 @@ impl MarkLedger {
         self.late += lates(answer);
         self.entered += 1;
         answer
+    }
+
+    /// Whether the number that a mark stands for in the current stretch is the greatest counted one or below it.
+    pub fn is_behind(&self, mark: u32) -> bool
+        ensures { (current : List ℕ) (closed : List (List ℕ)) → StandsFor self.now (current ∷ closed)
+            → let top = greatest (counted self.now.width current) in result ≡ int_le (near mark top) top }
+    {
+        self.window.is_behind(mark)
     }
 
     /// Closes the current stretch: what was pending is lost, and an empty stretch is the current one.
