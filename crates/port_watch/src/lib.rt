@@ -1,8 +1,6 @@
 //! A consumer of one's own, as an example: it counts the headers to destination ports above a threshold.
 #![tactic(auto)]
 
-ghost use Rattle.std.specs.Prelude.{◌≡◌};
-
 use itoa::Buffer;
 use sample_taps::{Brief, Line, Tap};
 
@@ -13,18 +11,6 @@ pub struct PortWatch {
     pub threshold: u16,
     /// How many were counted; it stays at 2^64 - 1.
     pub count: u64,
-}
-
-impl PortWatch {
-    /// None is counted.
-    pub fn above(threshold: u16) -> PortWatch
-        ensures { result ≡ record { threshold = threshold; count = 0 } }
-    {
-        PortWatch {
-            threshold,
-            count: 0,
-        }
-    }
 }
 
 impl Tap for PortWatch {

@@ -6,7 +6,11 @@ use std::test::Fail;
 #[test]
 fn counts_ports_above(rt: HostRuntime) -> Result<(), Fail> {
     let mut boxes: Vec<Box<dyn Tap>> = Vec::new(rt.alloc());
-    boxes.push(Box::new(rt.alloc(), PortWatch::above(1023))?)?;
+    let watch = PortWatch {
+        threshold: 1023,
+        count: 0,
+    };
+    boxes.push(Box::new(rt.alloc(), watch)?)?;
     let mut taps = Taps::new(boxes);
     for port in [443, 8080] {
         let brief = Brief {
