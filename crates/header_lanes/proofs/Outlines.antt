@@ -48,21 +48,27 @@ cut_ways true true v t k ipv4 ipv6 = refl
 cut_ways true false v t k ipv4 ipv6 = refl
 cut_ways false y v t k ipv4 ipv6 = refl
 
-at_cond : {A B : Type 0} (f : A → B) (b : Bool) (x y : A) → f (cond b x y) ≡ cond b (f x) (f y)
-at_cond f true x y = refl
-at_cond f false x y = refl
-
 -- where the type stands, for whatever is made of the place
-tags_passed : {X : Type 0} (f : Option ℕ → X) (long : ℕ → Bool) (a b c t u : Bool) → long 14 ≡ a → long 18 ≡ b → long 22 ≡ c
-    → f (cond a (cond t (cond b (cond u (cond c (Some 20) None) (Some 16)) None) (Some 12)) None)
-    ≡ (let at = cond (((t && a) && u) && b) 20 (cond (t && a) 16 12) in cond (long (at + 2)) (f (Some at)) (f None))
-tags_passed f long false b c true u x y z = sym (ap (λ v. cond v (f (Some 12)) (f None)) x)
-tags_passed f long false b c false u x y z = sym (ap (λ v. cond v (f (Some 12)) (f None)) x)
-tags_passed f long true b c false u x y z = sym (ap (λ v. cond v (f (Some 12)) (f None)) x)
-tags_passed f long true false c true true x y z = sym (ap (λ v. cond v (f (Some 16)) (f None)) y)
-tags_passed f long true false c true false x y z = sym (ap (λ v. cond v (f (Some 16)) (f None)) y)
-tags_passed f long true true c true false x y z = sym (ap (λ v. cond v (f (Some 16)) (f None)) y)
-tags_passed f long true true c true true x y z = at_cond f c (Some 20) None ∙ sym (ap (λ v. cond v (f (Some 20)) (f None)) z)
+placed : {X : Type 0} (made : Option ℕ → X) (a b c t u : Bool)
+    → made (cond a (cond t (cond b (cond u (cond c (Some 20) None) (Some 16)) None) (Some 12)) None)
+    ≡ (let once = t && a in
+    let twice = (once && u) && b in
+    cond (cond twice c (cond once b a)) (made (Some (cond twice 20 (cond once 16 12)))) (made None))
+placed made false b c true u = refl
+placed made false b c false u = refl
+placed made true b c false u = refl
+placed made true false c true true = refl
+placed made true false c true false = refl
+placed made true true c true false = refl
+placed made true true false true true = refl
+placed made true true true true true = refl
+
+-- a header reaches beyond the type by the test for its place
+reached : (reaches : ℕ → Bool) (once twice : Bool)
+    → cond twice (reaches 22) (cond once (reaches 18) (reaches 14)) ≡ reaches (cond twice 20 (cond once 16 12) + 2)
+reached reaches once true = refl
+reached reaches true false = refl
+reached reaches false false = refl
 
 -- behind its type, by the tests of the tags
 base_is_behind : (once u b : Bool) → ◌≡◌ {A = ℕ} (cond ((once && u) && b) 20 (cond once 16 12) + 2) (cond ((once && u) && b) 22 (cond once 18 14))
@@ -97,7 +103,8 @@ frame_shape h =
     let twice = (once && is_tag (number_at h 16)) && fits 18 in
     let at : ℕ = cond twice 20 (cond once 16 12) in
     let type = number_at h at in
-    tags_passed (λ o. from_type (framed (vlan_of h) None) o h) fits (fits 14) (fits 18) (fits 22) (is_tag (number_at h 12)) (is_tag (number_at h 16)) refl refl refl
+    placed (λ o. from_type (framed (vlan_of h) None) o h) (fits 14) (fits 18) (fits 22) (is_tag (number_at h 12)) (is_tag (number_at h 16))
+    ∙ ap (λ r. cond r (from_type (framed (vlan_of h) None) (Some at) h) (from_type (framed (vlan_of h) None) None h)) (reached fits once twice)
     ∙ ap (λ g. cond (fits (at + 2)) g (record (framed (vlan_of h) None) { kind = Short })) (type_shape (vlan_of h) type (at + 2) h)
     ∙ cut_ways (fits (at + 2)) (nat_le type 1535) (vlan_of h) type (type_path type) (λ f. ipv4_at f (at + 2) h) (λ f. ipv6_at f (at + 2) h)
 
