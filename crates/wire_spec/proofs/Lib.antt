@@ -13,6 +13,7 @@ pub mod FreePadding
 pub mod LastMember
 pub mod OneHead
 pub mod FurtherFormats
+pub mod WithoutFurther
 pub mod Spellings
 pub mod Computed
 pub mod EntryHeads

@@ -1,6 +1,6 @@
 -- Datagrams with one record of the formats 1004 to 1007 of flow records or 1001 of counter records.
 use Rattle.std.specs.Prelude.{ℕ, List, [], ◌∷◌, ◌++◌}
-use Rattle.wire_spec.specs.Shapes.{Tree, known, Trees, none, ◌&◌}
+use Rattle.wire_spec.specs.Shapes.{Tree, known, none, ◌&◌}
 use Rattle.wire_spec.specs.Heads.{datagram_tree}
 use Rattle.wire_spec.specs.Examples.{words, example_head, head_words, flow_words, flow_tree}
 

@@ -6,6 +6,9 @@ ghost use Rattle.wire_spec.specs.declared.fault.Fault.{Fault};
 ghost use Rattle.wire_spec.specs.Bytes.{AreBytes};
 ghost use Rattle.wire_spec.specs.Shapes.{Tree};
 ghost use Rattle.wire_spec.specs.Tables.{flow_table, counter_table, datagram};
+ghost use Rattle.wire_spec.specs.declared.pad.Pad.TheVariants.{Any};
+ghost use Rattle.wire_spec.specs.Examples.{gateway_datagram};
+ghost use Rattle.wire_spec.specs.FurtherExamples.{nat_record};
 ghost use Rattle.wire_spec.specs.FurtherFormats.{datagram_with, datagram_without, LacksFurther};
 ghost use Rattle.wire_spec.specs.Whole.{SpellsWhole, FailsWhole, whole_reading};
 
@@ -19,4 +22,12 @@ pub fn other_formats_are_read_as_before()
         → (SpellsWhole p datagram bytes t ↔ SpellsWhole p datagram_without bytes t) }
     ensures fault { (p : Pad) (bytes : List ℕ) (f : Fault) → AreBytes bytes → LacksFurther p bytes
         → (FailsWhole p datagram bytes f ↔ FailsWhole p datagram_without bytes f) }
+{}
+
+/// A datagram with a BGP route has none of these records, also where its path has a fault; one with translated addresses
+/// has.
+pub fn datagrams_without_further_records()
+    ensures sound { LacksFurther Any (gateway_datagram 1) }
+    ensures faulty { LacksFurther Any (gateway_datagram 3) }
+    ensures has_one { ¬ LacksFurther Any (nat_record 1) }
 {}
