@@ -1,5 +1,5 @@
 -- What the tables of the records that are read have for each format.
-use Rattle.std.proofs.Common.{◌≡◌, ◌≢◌, ℕ, ne_eqb, Result, Ok, Err, refl, sym, subst, ap, ◌∙◌}
+use Rattle.std.proofs.Common.{◌≡◌, ℕ, ne_eqb, Result, Ok, Err, refl, sym, subst, ap, ◌∙◌}
 use Rattle.wire_spec.specs.declared.pad.Pad.{Pad}
 use Rattle.wire_spec.specs.declared.fault.Fault.{Fault}
 use Rattle.wire_spec.specs.Shapes.{Shape, Table, empty, row, Tree, known, other}

@@ -1,5 +1,5 @@
 -- Where the lists of a gateway stand in the body that it was read from.
-use Rattle.std.proofs.Common.{◌≡◌, ℕ, List, [], ◌∷◌, ◌++◌, length, Result, Ok, Err, ap, subst, ◌∙◌, append_assoc, inl, inr, arith}
+use Rattle.std.proofs.Common.{◌≡◌, ℕ, List, [], ◌∷◌, ◌++◌, length, Result, Ok, Err, ap, ◌∙◌, append_assoc, inl, inr, arith}
 use Rattle.std.specs.Prelude.{IfOk}
 use Rattle.std.proofs.lemmas.List.{length-append}
 use Rattle.std.specs.Int.{w32, to_be_bytes}
@@ -13,7 +13,6 @@ use Rattle.wire_spec.specs.Heads.{address_tree}
 use Rattle.wire_spec.specs.Whole.{SpellsFront}
 use Rattle.wire_spec.proofs.Spellings.{spelled_length}
 use Rattle.data_format.specs.Addresses.{address_of}
-use Rattle.data_format.specs.Ranges.{IsRange}
 use Rattle.data_format.proofs.Ranges.{part_stands}
 use Rattle.as_paths.specs.declared.segment.Segment.{Segment}
 use Rattle.as_paths.specs.Paths.{kind_word, segment_tree, segment_trees}

@@ -1,17 +1,15 @@
 -- Where the slices of a record stand in the body that it was read from.
-use Rattle.std.proofs.Common.{◌≡◌, ℕ, ◌+◌, List, ◌++◌, length, Result, Ok, Err, ap, ◌∙◌, append_assoc, arith}
+use Rattle.std.proofs.Common.{◌≡◌, ℕ, ◌+◌, List, ◌++◌, length, Result, Ok, Err, ap, append_assoc, arith}
 use Rattle.std.specs.Prelude.{IfOk}
 use Rattle.std.proofs.lemmas.List.{length-append}
 use Rattle.wire_spec.specs.declared.pad.Pad.{Pad}
 use Rattle.wire_spec.specs.declared.fault.Fault.{Fault}
 use Rattle.wire_spec.specs.Heads.{address_tree}
 use Rattle.wire_spec.specs.Padding.{padding_of}
-use Rattle.wire_spec.specs.Spelling.{spell}
 use Rattle.wire_spec.specs.Tables.{agent_address, extended_user, extended_url, extended_mpls}
 use Rattle.wire_spec.specs.Whole.{SpellsFront}
 use Rattle.wire_spec.proofs.Spellings.{spelled_length}
 use Rattle.data_format.specs.Addresses.{address_of}
-use Rattle.data_format.specs.Ranges.{IsRange}
 use Rattle.data_format.proofs.Ranges.{part_stands}
 use Rattle.as_paths.proofs.WordSpellings.{words_alike}
 use Rattle.rec_more.specs.declared.user.UserRec.{UserRec}

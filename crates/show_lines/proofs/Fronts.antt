@@ -1,5 +1,5 @@
 -- The line of a record is that of its value: each kind of samples has lines for its own formats.
-use Rattle.std.proofs.Common.{◌≡◌, ℕ, List, codes, refl, sym, ap, ◌∙◌}
+use Rattle.std.proofs.Common.{◌≡◌, ℕ, List, codes, sym, ap, ◌∙◌}
 use Rattle.datagram_core.specs.Descriptions.{Description, Read, Kept, described}
 use Rattle.datagram_core.specs.Kinds.{IsOfKind, HasKind}
 use Rattle.datagram_core.specs.Records.{tree_in, record_tree}
