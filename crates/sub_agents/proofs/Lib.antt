@@ -1,0 +1,10 @@
+pub mod Sizes
+pub mod Lists
+pub mod IdTests
+pub mod SetUps
+pub mod Fits
+pub mod Observed
+pub mod Anew
+pub mod Cuts
+pub mod Sends
+pub mod Taking

@@ -1,0 +1,19 @@
+//! The sub-agents of a sampling agent: packets are observed and counters polled, samples wait in a stage, and a send
+//! puts them as datagrams into an outlet (sFlow Version 5, section 5).
+#![tactic(auto)]
+
+mod ids;
+mod opening;
+mod outlet;
+mod packet;
+mod resetting;
+mod setup;
+mod sources;
+mod staged;
+mod sub_agent;
+
+pub use data_format::{Address, Failed, Form, Port, SourceId};
+pub use outlet::{Outlet, OutletFault};
+pub use packet::{ObserveRefusal, Packet, Seen};
+pub use setup::{CounterSetup, FlowSetup, OpenRefusal, Setup};
+pub use sub_agent::SubAgent;
