@@ -5,7 +5,7 @@ use Rattle.std.proofs.lemmas.List.Sums.{sum_by-cons}
 use Rattle.count_spec.proofs.Counts.{count_by-cons}
 use Rattle.count_spec.specs.Boots.{Stamp, boots, stale_items}
 use Rattle.count_spec.proofs.Restarts.{boots-count}
-use Rattle.books_spec.specs.Items.{Sample, Of, Other, Item, Got, Malformed, Stream, stream_of}
+use Rattle.books_spec.specs.Items.{Sample, Of, Carrying, Other, Item, Got, Malformed, Stream, stream_of}
 use Rattle.books_spec.specs.Listing.{same_stream, among, listed, unlisted, AreDistinct}
 use Rattle.books_spec.specs.Books.{is_malformed, streams_of, own, is_other, Entered, source_of}
 use Rattle.books_spec.proofs.Listings.{IsSame, symmetric, listed-distinct}
@@ -146,3 +146,4 @@ samples-split (e ∷ before) =
     kind : (s : Sample) → cond (is_other s) 1 0 + length (cons_option (source_of (record { stream = e.stream; sample = s })) (filter_map source_of before)) ≡ 1 + length (filter_map source_of before)
     kind Other = omega arith
     kind (Of id reading) = omega arith
+    kind (Carrying id reading counters) = omega arith

@@ -8,8 +8,9 @@ use Rattle.count_spec.specs.Boots.{sequences, boot_place, boots}
 use Rattle.count_spec.specs.Stretches.{placed}
 use Rattle.count_spec.specs.declared.stretch_place.StretchPlace.{StretchPlace}
 use Rattle.count_spec.specs.declared.stretch_place.StretchPlace.TheVariants.{Current, Next, Stale}
-use Rattle.books_spec.specs.Items.{SourceId, Sample, Of, Other, Datagram, stamp_of, Item, Got, Malformed, Stream, stream_of, Source}
+use Rattle.books_spec.specs.Items.{SourceId, Sample, Of, Carrying, Other, Datagram, stamp_of, Item, Got, Malformed, Stream, stream_of, Source}
 use Rattle.books_spec.specs.declared.limits.Limits.{Limits}
+use Rattle.books_spec.specs.declared.reading.SampleReading.{SampleReading}
 use Rattle.books_spec.specs.Listing.{same_stream, same_id, same_source, among, listed, first_arrivals}
 use Rattle.books_spec.specs.Books.{streams_of, listed_streams, own, stream_boots, taken_of, taken_at, taken_in, taken_now, samples_at, first_samples, onto, Entered, entered_in, entered, source_of, sources_of, reading_of, readings, source_boots}
 use Rattle.books_spec.specs.declared.taken.Taken.{Taken}
@@ -21,22 +22,24 @@ use Rattle.books_spec.proofs.Keys.{stream-same}
 
 abbrev is_of : SourceId → Sample → ℕ
 is_of id (Of other reading) = cond (same_id id other) 1 0
+is_of id (Carrying other reading counters) = cond (same_id id other) 1 0
 is_of id Other = 0
 
 abbrev of_count : SourceId → List Sample → ℕ
 of_count id [] = 0
 of_count id (x ∷ more) = is_of id x + of_count id more
 
+one-if : (b : Bool) (reading : SampleReading) (rest : List SampleReading)
+    → length (cons_option (cond b (Some reading) None) rest) ≡ cond b 1 0 + length rest
+one-if true reading rest = omega arith
+one-if false reading rest = omega arith
+
 reading-one : (id : SourceId) (x : Sample) (rest : List Sample)
     → length (filter_map (reading_of id) (x ∷ rest)) ≡ is_of id x + length (filter_map (reading_of id) rest)
 reading-one id Other rest = omega arith
-reading-one id (Of other reading) rest = go (same_id id other)
-  where
-    go : (b : Bool)
-        → length (cons_option (cond b (Some reading) None) (filter_map (reading_of id) rest))
-        ≡ cond b 1 0 + length (filter_map (reading_of id) rest)
-    go true = omega arith
-    go false = omega arith
+reading-one id (Of other reading) rest = one-if (same_id id other) reading (filter_map (reading_of id) rest)
+reading-one id (Carrying other reading counters) rest =
+    one-if (same_id id other) reading (filter_map (reading_of id) rest)
 
 readings-onto : (id : SourceId) (xs rest : List Sample)
     → length (filter_map (reading_of id) (onto xs rest)) ≡ of_count id xs + length (filter_map (reading_of id) rest)
@@ -47,6 +50,10 @@ readings-onto id (x ∷ more) rest =
     omega (arith, later, here)
 
 -- ---- entered samples of a source
+
+both-or-none : (b c : Bool) (n : ℕ) → cond (b && c) 1 0 + n ≡ cond b (cond c 1 0) 0 + n
+both-or-none true c n = refl
+both-or-none false c n = refl
 
 entry-one : (k : Source) (s : Stream) (x : Sample) (rest : List Entered)
     → count_by (same_source k) (filter_map source_of (entered_in s x ∷ rest))
@@ -59,12 +66,10 @@ entry-one k s Other rest = go (same_stream k.stream s)
     go false = omega arith
 entry-one k s (Of id reading) rest =
     count_by-cons (same_source k) (record { stream = s; id = id }) (filter_map source_of rest)
-    ∙ go (same_stream k.stream s) (same_id k.id id)
-  where
-    go : (b c : Bool) → cond (b && c) 1 0 + count_by (same_source k) (filter_map source_of rest)
-        ≡ cond b (cond c 1 0) 0 + count_by (same_source k) (filter_map source_of rest)
-    go true c = refl
-    go false c = refl
+    ∙ both-or-none (same_stream k.stream s) (same_id k.id id) (count_by (same_source k) (filter_map source_of rest))
+entry-one k s (Carrying id reading counters) rest =
+    count_by-cons (same_source k) (record { stream = s; id = id }) (filter_map source_of rest)
+    ∙ both-or-none (same_stream k.stream s) (same_id k.id id) (count_by (same_source k) (filter_map source_of rest))
 
 entries-onto : (k : Source) (s : Stream) (xs : List Sample) (rest : List Entered)
     → count_by (same_source k) (filter_map source_of (onto (map (entered_in s) xs) rest))

@@ -4,3 +4,12 @@ pub mod Keys
 pub mod Books
 pub mod Entered
 pub mod Adding
+pub mod Generations
+pub mod GenerationViews
+pub mod NoResets
+pub mod Placed
+pub mod Rooms
+pub mod Parting
+pub mod Mapped
+pub mod PlaceOrder
+pub mod Seen

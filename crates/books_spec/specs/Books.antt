@@ -3,7 +3,6 @@
 -- datagram stand in the datagram's order, and what is listed in order of first arrival.
 use Rattle.std.specs.Prelude.{ℕ, ◌+◌, Bool, true, false, cond, List, [], ◌∷◌, length, map, Option, Some, None, nat_le}
 use Rattle.std.specs.List.{filter, filter_map, count_by, position_or_len}
-use Rattle.wire_spec.specs.declared.fault.Fault.{Fault}
 use Rattle.count_spec.specs.Windows.{answer, counted}
 use Rattle.count_spec.specs.Boots.{sequences, boot_place, boots, stale_items}
 use Rattle.count_spec.specs.declared.stretch_place.StretchPlace.{StretchPlace}
@@ -19,7 +18,7 @@ use Rattle.books_spec.specs.declared.taken.Taken.TheVariants as takes
 use Rattle.books_spec.specs.declared.totals.FirstFault.{FirstFault}
 use Rattle.books_spec.specs.declared.totals.Totals.{Totals}
 use Rattle.books_spec.specs.Views.{plain_view, flow_view}
-use Rattle.books_spec.specs.Items.{SourceId, Sample, Of, Other, Datagram, stamp_of, Item, Got, Malformed, Stream, stream_of, Source}
+use Rattle.books_spec.specs.Items.{SourceId, Sample, Of, Carrying, Other, Datagram, stamp_of, Item, Got, Malformed, Stream, stream_of, Source}
 use Rattle.books_spec.specs.Listing.{same_stream, same_id, same_source, among, listed, unlisted}
 
 -- ---- 1. entries and faults
@@ -143,6 +142,7 @@ entered l (item ∷ before) = onto (entered_of (taken_now l before item) item) (
 -- the source of a sample, if its format has one
 abbrev pub source_in : Stream → Sample → Option Source
 source_in stream (Of id reading) = Some (record { stream = stream; id = id })
+source_in stream (Carrying id reading counters) = Some (record { stream = stream; id = id })
 source_in stream Other = None
 
 abbrev pub source_of : Entered → Option Source
@@ -158,6 +158,7 @@ listed_sources l items = listed same_source l.sources (sources_of l items)
 
 abbrev pub is_other : Sample → Bool
 is_other (Of id reading) = false
+is_other (Carrying id reading counters) = false
 is_other Other = true
 
 -- ---- 5. sources over boots
@@ -172,6 +173,7 @@ first_samples width (d ∷ before) =
 -- the reading, where the sample is of this source
 abbrev pub reading_of : SourceId → Sample → Option SampleReading
 reading_of id (Of other reading) = cond (same_id id other) (Some reading) None
+reading_of id (Carrying other reading counters) = cond (same_id id other) (Some reading) None
 reading_of id Other = None
 
 -- the readings of a source in one boot

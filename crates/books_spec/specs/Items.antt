@@ -5,6 +5,7 @@ use Rattle.wire_spec.specs.Heads.{AgentAddress, Head}
 use Rattle.wire_spec.specs.declared.fault.Fault.{Fault}
 use Rattle.count_spec.specs.Boots.{Stamp}
 use Rattle.books_spec.specs.declared.reading.SampleReading.{SampleReading}
+use Rattle.books_spec.specs.InterfaceRise.{InterfaceCounters}
 
 -- what samples are taken of within a stream: flow samples or counters samples, of one class and index;
 -- those of the compact and of the expanded form are the same
@@ -13,9 +14,10 @@ pub record SourceId : Type 0 where
   pub class : ℕ
   pub index : ℕ
 
--- a sample of a source, or one of another format
+-- a sample of a source, one that carries the counters of an interface besides, or one of another format
 pub data Sample : Type 0 where
   Of : SourceId → SampleReading → Sample
+  Carrying : SourceId → SampleReading → InterfaceCounters → Sample
   Other : Sample
 
 -- a flow sample of this class and index
@@ -26,6 +28,12 @@ flow_sample class index reading = Of (record { flow = true; class = class; index
 abbrev pub counters_sample : ℕ → ℕ → ℕ → Sample
 counters_sample class index sequence =
     Of (record { flow = false; class = class; index = index }) (record { sequence = sequence; pool = 0; drops = 0; rate = 0 })
+
+-- the same, with the counters of an interface
+abbrev pub interface_sample : ℕ → ℕ → ℕ → InterfaceCounters → Sample
+interface_sample class index sequence counters =
+    Carrying (record { flow = false; class = class; index = index })
+    (record { sequence = sequence; pool = 0; drops = 0; rate = 0 }) counters
 
 -- a datagram: its arrival in ms, its head, and its samples in their order
 pub record Datagram : Type 0 where

@@ -1,7 +1,14 @@
 pub mod Limits
 pub mod Views
+pub mod InterfaceRise
+pub mod Generations
+pub mod SourceViews
 pub mod Items
 pub mod Listing
 pub mod Books
+pub mod PlacedSamples
+pub mod WholeBooks
+pub mod Parting
 pub mod Rows
 pub mod BookRows
+pub mod GenerationRows

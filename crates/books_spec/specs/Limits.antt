@@ -20,8 +20,8 @@ abbrev pub refused_limit : Limits → Option ℕ
 refused_limit l =
     if is_within l.streams 1 4096 then (
     if is_within l.sources 1 65536 then (
-    if is_within l.datagram_width 1 1024 then (
-    if is_within l.sample_width 1 1024 then (
+    if is_within l.datagram_width 1 8192 then (
+    if is_within l.sample_width 1 8192 then (
     if is_within l.boot_slack 100 1073741824 then None
     else Some 5) else Some 4) else Some 3) else Some 2) else Some 1
 

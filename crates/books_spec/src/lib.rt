@@ -8,16 +8,25 @@
 
 pub mod book_laws;
 pub mod book_rows;
+mod booked;
+pub mod generation_laws;
+pub mod generation_rows;
 pub mod laws;
 mod ledger_view;
 mod limits;
+pub mod parting_laws;
 mod reading;
 pub mod rows;
+mod sample_place;
+mod source_view;
 mod taken;
 mod totals;
 
+pub use booked::Booked;
 pub use ledger_view::LedgerView;
 pub use limits::Limits;
 pub use reading::SampleReading;
+pub use sample_place::SamplePlace;
+pub use source_view::{IfView, SourceLedgerView};
 pub use taken::Taken;
 pub use totals::{FirstFault, Totals};

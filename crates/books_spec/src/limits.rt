@@ -8,9 +8,9 @@ pub struct Limits {
     pub streams: u32,
     /// Limit 2: how many sources are listed at most, from 1 to 65,536.
     pub sources: u32,
-    /// Limit 3: the width of the windows over datagram numbers, from 1 to 1,024.
+    /// Limit 3: the width of the windows over datagram numbers, from 1 to 8,192.
     pub datagram_width: u32,
-    /// Limit 4: the width of the windows over sample numbers, from 1 to 1,024.
+    /// Limit 4: the width of the windows over sample numbers, from 1 to 8,192.
     pub sample_width: u32,
     /// Limit 5: by how many ms the boot marks, arrival less uptime, of one boot may differ, from 100 to 1,073,741,824.
     pub boot_slack: u32,
@@ -41,10 +41,10 @@ impl Limits {
         if !is_within(self.sources, 1, 65_536) {
             return Some(2);
         }
-        if !is_within(self.datagram_width, 1, 1_024) {
+        if !is_within(self.datagram_width, 1, 8_192) {
             return Some(3);
         }
-        if !is_within(self.sample_width, 1, 1_024) {
+        if !is_within(self.sample_width, 1, 8_192) {
             return Some(4);
         }
         if !is_within(self.boot_slack, 100, 1_073_741_824) {

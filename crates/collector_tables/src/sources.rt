@@ -130,7 +130,7 @@ impl SourceTable {
     }
 
     /// Enters what a sample of a source shows, in this boot of its stream, which is that of the last sample or a later
-    /// one; `None` exactly where the source is new and there is no room. The windows have this width, from 1 to 1,024.
+    /// one; `None` exactly where the source is new and there is no room. The windows have this width, from 1 to 8,192.
     /// Fewer than 2^62 samples of each source were entered before.
     pub fn enter(
         &mut self,
@@ -140,7 +140,7 @@ impl SourceTable {
         reading: SampleReading,
     ) -> Option<EnteredAt>
         requires width_from { 1 ≤ width }
-        requires width_to { width ≤ 1024 }
+        requires width_to { width ≤ 8192 }
         requires boot_counts { 1 ≤ boot }
         requires ready { (p : ℕ) (was : SourceRecord) → slice_get self.old.entries p ≡ Some (key, was)
             → (boot_of was ≤ boot) × (entered_count was < 2 ^ 62) }
@@ -185,7 +185,7 @@ impl SourceTable {
         reading: SampleReading,
     ) -> EnteredAt
         requires width_from { 1 ≤ width }
-        requires width_to { width ≤ 1024 }
+        requires width_to { width ≤ 8192 }
         requires boot_counts { 1 ≤ boot }
         requires room { length self.old.entries < self.old.limit }
         requires new { among same_key (keys_in (λ (k : SourceKey). k) self.old.entries) key ≡ false }
@@ -207,7 +207,7 @@ impl SourceTable {
 // Nothing came yet from a source of this kind.
 fn opened(kind: SampleKind, width: u32) -> SourceRecord
     requires width_from { 1 ≤ width }
-    requires width_to { width ≤ 1024 }
+    requires width_to { width ≤ 8192 }
     ensures stands { StandsFor result [] }
     ensures kind { is_flow result ≡ is_flow_kind kind }
     ensures width { width_of result ≡ width }

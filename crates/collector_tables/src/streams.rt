@@ -139,7 +139,7 @@ impl StreamTable {
 
     /// Takes a datagram of a stream, with its arrival and its uptime in ms and its sequence number: `None` exactly
     /// where the stream is new and there is no room, else what is answered of it, its place and its boot. The windows
-    /// have this width, from 1 to 1,024; the boot marks of one boot may differ by the slack, in ms. Fewer than 2^62
+    /// have this width, from 1 to 8,192; the boot marks of one boot may differ by the slack, in ms. Fewer than 2^62
     /// datagrams of each stream were taken before.
     pub fn take(
         &mut self,
@@ -151,7 +151,7 @@ impl StreamTable {
         sequence: u32,
     ) -> Option<TakenAt>
         requires width_from { 1 ≤ width }
-        requires width_to { width ≤ 1024 }
+        requires width_to { width ≤ 8192 }
         requires few { (p : ℕ) (k : StreamKey) (was : StreamState) → slice_get self.old.entries p ≡ Some (k, was)
             → was.ledger.marks.entered + was.stale < 2 ^ 62 }
         ensures stands { (l : Limits) (items : List Item) (d : Datagram) → l.streams ≡ self.old.limit
@@ -187,7 +187,7 @@ impl StreamTable {
         sequence: u32,
     ) -> TakenAt
         requires width_from { 1 ≤ width }
-        requires width_to { width ≤ 1024 }
+        requires width_to { width ≤ 8192 }
         requires room { length self.old.entries < self.old.limit }
         requires new { among same_stream (keys_in stream_in self.old.entries) (stream_in key) ≡ false }
         ensures now { (was : StreamState) × (now : StreamState)

@@ -10,3 +10,5 @@ pub mod Gaps
 pub mod Stretches
 pub mod Restarts
 pub mod Rises
+pub mod CounterRises
+pub mod TrueStretches

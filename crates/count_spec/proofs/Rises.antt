@@ -79,7 +79,7 @@ value_at-shown (v ∷ more) n = go (int_eq v.number n) (value_at-shown more n)
     go false h = h
 
 -- the value at the greatest number with one number more, and at the least
-value-greater : (v : NumberedValue) (before : List NumberedValue) (g : ℤ) → v.number ≢ g
+pub value-greater : (v : NumberedValue) (before : List NumberedValue) (g : ℤ) → v.number ≢ g
     → value_at (v ∷ before) (int_max v.number g) ≡ cond (int_lt g v.number) v.value (value_at before g)
 value-greater v before g other = go (int_lt g v.number)
   where
@@ -87,7 +87,7 @@ value-greater v before g other = go (int_lt g v.number)
     go true = rw (int_eq-same v.number) refl
     go false = rw (int_eq-other v.number g other) refl
 
-value-less : (v : NumberedValue) (before : List NumberedValue) (l : ℤ) → v.number ≢ l
+pub value-less : (v : NumberedValue) (before : List NumberedValue) (l : ℤ) → v.number ≢ l
     → value_at (v ∷ before) (int_min v.number l) ≡ cond (int_lt v.number l) v.value (value_at before l)
 value-less v before l other = go (int_lt v.number l) (int_lt l v.number) refl refl
   where

@@ -3,4 +3,7 @@ pub mod Parts
 pub mod Stretches
 pub mod Boots
 pub mod Rise
+pub mod CounterRise
+pub mod TrueRise
+pub mod TrueStretches
 pub mod Rows

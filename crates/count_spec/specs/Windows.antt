@@ -86,6 +86,12 @@ is_newest (First Least n) = false
 is_newest Repeat = false
 is_newest Late = false
 
+-- whether the mark brought a number that wasn't counted before
+abbrev pub is_first : Entered → Bool
+is_first (First place n) = true
+is_first Repeat = false
+is_first Late = false
+
 -- whether the mark brought a number once more
 abbrev pub is_repeat : Entered → Bool
 is_repeat (First place n) = false

@@ -39,10 +39,10 @@ pub within-ranges : (l : Limits) → refused_limit l ≡ None → AreWithin l
 within-ranges l e =
     let one = passed (is_within l.streams 1 4096) _ 1 e in
     let two = passed (is_within l.sources 1 65536) _ 2 one.1 in
-    let three = passed (is_within l.datagram_width 1 1024) _ 3 two.1 in
-    let four = passed (is_within l.sample_width 1 1024) _ 4 three.1 in
-    let datagrams = range l.datagram_width 1 1024 three.0 in
-    let samples = range l.sample_width 1 1024 four.0 in
+    let three = passed (is_within l.datagram_width 1 8192) _ 3 two.1 in
+    let four = passed (is_within l.sample_width 1 8192) _ 4 three.1 in
+    let datagrams = range l.datagram_width 1 8192 three.0 in
+    let samples = range l.sample_width 1 8192 four.0 in
     record {
       streams = (range l.streams 1 4096 one.0).1;
       datagrams_from = datagrams.0;

@@ -48,9 +48,9 @@ AreFew (Malformed f ∷ before) = AreFew before
 pub record AreWithin (l : Limits) : Type 0 where
   pub streams : l.streams ≤ 4096
   pub datagrams_from : 1 ≤ l.datagram_width
-  pub datagrams_to : l.datagram_width ≤ 1024
+  pub datagrams_to : l.datagram_width ≤ 8192
   pub samples_from : 1 ≤ l.sample_width
-  pub samples_to : l.sample_width ≤ 1024
+  pub samples_to : l.sample_width ≤ 8192
 
 -- what is always so: it stands for some items, no more than 2^48
 pub record IsCollector (s : CollectorState) : Type 0 where

@@ -5,7 +5,7 @@ use Rattle.books_spec.specs.Views.{marks_in}
 use Rattle.books_spec.specs.Books.{mark_in}
 use Rattle.books_spec.specs.declared.reading.SampleReading.{SampleReading}
 use Rattle.source_ledger.specs.Boots as boots
-use Rattle.source_ledger.specs.Flows as flows
+use Rattle.source_ledger.specs.BootFlows as flows
 use Rattle.stream_books.specs.declared.source.SourceRecord.{SourceRecord}
 use Rattle.stream_books.specs.declared.source.SourceRecord.TheVariants.{Flow, Counters}
 

@@ -6,42 +6,42 @@ ghost use Rattle.stream_books.specs.Sources.{StandsFor, is_flow, width_of, boot_
 
 use books_spec::{LedgerView, SampleReading};
 use late_window::Entered;
-use source_ledger::{CounterLedger, FlowLedger};
+use source_ledger::{BootFlowLedger, StreamLedger};
 
 /// What a collector keeps of one source.
 #[derive(Debug, Drop)]
 pub enum SourceRecord {
     /// Of a source of flow samples.
-    Flow(FlowLedger),
+    Flow(BootFlowLedger),
     /// Of a source of counters samples.
-    Counters(CounterLedger),
+    Counters(StreamLedger),
 }
 
 impl SourceRecord {
-    /// Nothing came yet from a source of flow samples. The width of its windows is from 1 to 1,024.
+    /// Nothing came yet from a source of flow samples. The width of its windows is from 1 to 8,192.
     pub fn open_flow(width: u32) -> SourceRecord
         requires width_from { 1 ≤ width }
-        requires width_to { width ≤ 1024 }
+        requires width_to { width ≤ 8192 }
         ensures stands { StandsFor result [] }
         ensures kind { is_flow result ≡ true }
         ensures width { width_of result ≡ width }
         ensures boot { boot_of result ≡ 0 }
         ensures entered { entered_count result ≡ 0 }
     {
-        SourceRecord::Flow(FlowLedger::open(width))
+        SourceRecord::Flow(BootFlowLedger::open(width))
     }
 
-    /// Nothing came yet from a source of counters samples. The width of its windows is from 1 to 1,024.
+    /// Nothing came yet from a source of counters samples. The width of its windows is from 1 to 8,192.
     pub fn open_counters(width: u32) -> SourceRecord
         requires width_from { 1 ≤ width }
-        requires width_to { width ≤ 1024 }
+        requires width_to { width ≤ 8192 }
         ensures stands { StandsFor result [] }
         ensures kind { is_flow result ≡ false }
         ensures width { width_of result ≡ width }
         ensures boot { boot_of result ≡ 0 }
         ensures entered { entered_count result ≡ 0 }
     {
-        SourceRecord::Counters(CounterLedger::open(width))
+        SourceRecord::Counters(StreamLedger::open(width))
     }
 
     /// Enters what a sample of this boot shows; a boot later than that of the last one closes it. Fewer than 2^62

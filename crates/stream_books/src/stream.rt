@@ -36,10 +36,10 @@ impl Model for StreamRecord {
 }
 
 impl StreamRecord {
-    /// Nothing came yet. The width of the windows over datagram numbers is from 1 to 1,024.
+    /// Nothing came yet. The width of the windows over datagram numbers is from 1 to 8,192.
     pub fn open(width: u32) -> StreamRecord
         requires width_from { 1 ≤ width }
-        requires width_to { width ≤ 1024 }
+        requires width_to { width ≤ 8192 }
         ensures stands { (slack : ℕ) → StandsFor slack result [] }
         ensures width { result.ledger.marks.width ≡ width }
         ensures entered { result.ledger.marks.entered ≡ 0 }
