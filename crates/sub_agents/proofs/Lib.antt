@@ -8,3 +8,5 @@ pub mod Anew
 pub mod Cuts
 pub mod Sends
 pub mod Taking
+pub mod Keeping
+pub mod Places

@@ -17,7 +17,7 @@ or_else (Some x) d = x
 pub some-eq : {X : Type 0} (x y : X) → Some x ≡ Some y → x ≡ y
 some-eq {X} x y e = ap (λ (o : Option X). or_else o x) e
 
-none-some : {X : Type 0} {A : Type 0} (x : X) → None ≡ Some x → A
+pub none-some : {X : Type 0} {A : Type 0} (x : X) → None ≡ Some x → A
 none-some x e = absurd cc
 
 module _ {X : Type 0} where

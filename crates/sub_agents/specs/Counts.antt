@@ -1,5 +1,5 @@
 -- The sources of a sub-agent, and the counts for which they stand.
-use Rattle.std.specs.Prelude.{◌≡◌, ℕ, ◌+◌, Bool, cond, List, [], ◌∷◌, map}
+use Rattle.std.specs.Prelude.{◌≡◌, ℕ, ◌+◌, Bool, true, false, cond, List, [], ◌∷◌, map}
 use Rattle.agent_spec.specs.Sources as spec
 use Rattle.agent_spec.specs.Marks.{is_marked}
 use Rattle.agent_spec.specs.Boots.{last_poll, issued_in}
@@ -41,6 +41,11 @@ taken_of begin marked place c =
     cond marked
     (cond place (Issued (sampling.marks_after begin (1 + c.packets) c.issued c.dropped)) Dropped)
     Passed
+
+abbrev pub is_issued : Taken → Bool
+is_issued Passed = false
+is_issued Dropped = false
+is_issued (Issued marks) = true
 
 -- what is sampled, and what is polled
 abbrev pub flow_sources : List FlowSource → List SourceId

@@ -1,5 +1,5 @@
 -- What an outlet took, and the datagrams that a send puts.
-use Rattle.std.specs.Prelude.{◌≡◌, ℕ, ◌+◌, ◌-◌, ◌^◌, min, List, [], ◌∷◌, ◌++◌, length, take}
+use Rattle.std.specs.Prelude.{◌≡◌, ℕ, ◌+◌, List, [], ◌∷◌, ◌++◌, length, take}
 use Rattle.std.specs.declared.option.Option.{Option}
 use Rattle.std.specs.declared.option.Option.TheVariants.{Some}
 use Rattle.agent_spec.specs.Samples.{Sample, Datagram, Setup}
@@ -31,7 +31,3 @@ puts_behind b now count (d ∷ more) =
 -- the first so many datagrams of what is staged, sent at this uptime
 abbrev pub puts_of : BootSoFar → ℕ → ℕ → List PutView
 puts_of b now count = puts_behind b now (length (so_far b).sent) (take count (packed b.setup (so_far b)))
-
--- one more than a count of 64 bits, which stays at its last value
-abbrev pub next_count : ℕ → ℕ
-next_count count = min (count + 1) (2 ^ 64 - 1)

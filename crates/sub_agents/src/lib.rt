@@ -3,6 +3,7 @@
 #![tactic(auto)]
 
 mod ids;
+mod observing;
 mod opening;
 mod outlet;
 mod packet;
@@ -15,5 +16,6 @@ mod sub_agent;
 pub use data_format::{Address, Failed, Form, Port, SourceId};
 pub use outlet::{Outlet, OutletFault};
 pub use packet::{ObserveRefusal, Packet, Seen};
+pub use resetting::NoSource;
 pub use setup::{CounterSetup, FlowSetup, OpenRefusal, Setup};
 pub use sub_agent::SubAgent;

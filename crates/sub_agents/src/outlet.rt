@@ -1,5 +1,6 @@
 ghost use Rattle.std.specs.Prelude.{◌≡◌, [], ◌∷◌, OnOk, OnErr};
-ghost use Rattle.sub_agents.specs.Outlets.{Took, next_count};
+ghost use Rattle.agent_poller.specs.Meters.{next_count};
+ghost use Rattle.sub_agents.specs.Outlets.{Took};
 
 use data_format::Failed;
 

@@ -1,13 +1,15 @@
 // Samples that wait for a datagram.
-ghost use Rattle.std.specs.Prelude.{◌≡◌, ◌≤◌, ◌+◌, length};
+ghost use Rattle.std.specs.Prelude.{◌≡◌, ◌≤◌, ◌+◌, take, length};
 ghost use Rattle.wire_spec.specs.Heads.{address_tree};
 ghost use Rattle.wire_spec.specs.Spelling.{spell};
 ghost use Rattle.data_format.specs.Addresses.{address_of};
 ghost use Rattle.sub_agents.specs.Staged.{IsWritable, staged_size};
 ghost use Rattle.sub_agents.specs.Sizes.{flow_bytes, counters_bytes};
 
+use crate::packet::Packet;
+use agent_sampler::Marks;
 use arrayvec::ArrayVec;
-use data_format::{Address, CountersHead, FlowHead, Form};
+use data_format::{Address, CountersHead, FlowHead, Form, SourceId};
 use rec_counters::IfCounters;
 
 /// How many bytes of a packet a sample shows at most.
@@ -34,6 +36,48 @@ pub(crate) struct StagedCounters {
 pub(crate) enum Staged {
     Flow(StagedFlow),
     Counters(StagedCounters),
+}
+
+/// A sample of a packet, with the words of its source. A sample shows the first 128 bytes of the packet.
+pub(crate) fn stage_packet(
+    source: SourceId,
+    rate: u32,
+    marks: Marks,
+    packet: &Packet<'_>,
+) -> StagedFlow
+    ensures head { result.head ≡ record {
+      sequence = marks.next;
+      source = source;
+      rate = rate;
+      pool = marks.pool;
+      drops = marks.drops;
+      input = packet.now.input;
+      output = packet.now.output;
+    } }
+    ensures frame_length { result.frame_length ≡ packet.now.frame_length }
+    ensures vlan { result.vlan ≡ packet.now.vlan }
+    ensures header { result.header.items ≡ take 128 packet.now.header.now }
+{
+    let mut header = ArrayVec::new();
+    let shown = packet.header.len().min(MAX_HEADER);
+    match header.try_extend_from_slice(&packet.header[..shown]) {
+        Ok(()) => {}
+        Err(_) => unreachable!(),
+    }
+    StagedFlow {
+        head: FlowHead {
+            sequence: marks.next,
+            source,
+            rate,
+            pool: marks.pool,
+            drops: marks.drops,
+            input: packet.input,
+            output: packet.output,
+        },
+        frame_length: packet.frame_length,
+        vlan: packet.vlan,
+        header,
+    }
 }
 
 /// How many bytes a flow sample has that shows so many bytes of a packet, at most 128.
