@@ -3,6 +3,7 @@
 #![tactic(auto)]
 
 mod ids;
+mod list_outlet;
 mod observing;
 mod opening;
 mod outlet;
@@ -12,8 +13,11 @@ mod setup;
 mod sources;
 mod staged;
 mod sub_agent;
+#[cfg(test)]
+mod tests;
 
 pub use data_format::{Address, Failed, Form, Port, SourceId};
+pub use list_outlet::{ListOutlet, Put};
 pub use outlet::{Outlet, OutletFault};
 pub use packet::{ObserveRefusal, Packet, Seen};
 pub use resetting::NoSource;
