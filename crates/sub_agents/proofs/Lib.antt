@@ -10,3 +10,7 @@ pub mod Sends
 pub mod Taking
 pub mod Keeping
 pub mod Places
+pub mod PollLists
+pub mod PollSteps
+pub mod PollRuns
+pub mod CountersKept

@@ -11,3 +11,4 @@ pub mod Fields
 pub mod Answers
 pub mod Outlets
 pub mod Sent
+pub mod Polls

@@ -1,8 +1,11 @@
 use crate::{
-    Address, FlowSetup, Form, ListOutlet, ObserveRefusal, Outlet, Packet, Port, Seen, Setup,
-    SourceId, SubAgent,
+    Address, CounterSetup, FlowSetup, Form, ListOutlet, ObserveRefusal, Outlet, Packet,
+    PollRefusal, Port, Seen, Setup, SourceId, SubAgent,
 };
+use agent_poller::ListMeter;
 use agent_sampler::Skips;
+use rec_counters::IfCounters;
+use std::alloc::{AllocError, Global};
 use std::test::Fail;
 
 const SOURCE: SourceId = SourceId { class: 0, index: 5 };
@@ -80,5 +83,71 @@ fn puts(rt: HostRuntime) -> Result<(), Fail> {
     let puts = outlet.puts();
     assert!(rt; puts.len() == 2 && puts[0].bytes[..] == [7, 8] && puts[1].number == 3);
     assert!(rt; outlet.lacked() == 0);
+    Ok(())
+}
+
+fn reading(index: u32) -> IfCounters<'static> {
+    IfCounters {
+        index,
+        if_type: 6,
+        speed: 1_000_000_000,
+        direction: 1,
+        status: 3,
+        in_octets: 0,
+        in_ucast: 0,
+        in_multicast: 0,
+        in_broadcast: 0,
+        in_discards: 0,
+        in_errors: 0,
+        in_unknown: 0,
+        out_octets: 0,
+        out_ucast: 0,
+        out_multicast: 0,
+        out_broadcast: 0,
+        out_discards: 0,
+        out_errors: 0,
+        promiscuous: 0,
+        tail: &[],
+    }
+}
+
+fn counter(index: u32) -> CounterSetup {
+    CounterSetup {
+        source: SourceId { class: 0, index },
+        every: 1000,
+        first: 1,
+    }
+}
+
+fn polled(alloc: Global, max_datagram: u32, stage: u32) -> Result<Setup, AllocError> {
+    Ok(Setup {
+        agent: Address::V4([10, 0, 0, 1]),
+        sub_agent: 1,
+        max_datagram,
+        stage,
+        first: 1,
+        flows: Vec::new(alloc),
+        counters: vec![in alloc; counter(1), counter(2), counter(3)]?,
+    })
+}
+
+// A full stage keeps a source due; a failed read too.
+#[test]
+fn polls(rt: HostRuntime) -> Result<(), Fail> {
+    let mut meter = ListMeter::new(
+        vec![in rt.alloc(); reading(1), reading(2), reading(3)]?,
+        vec![in rt.alloc(); 2]?,
+    );
+    let small = polled(rt.alloc(), 143, 1)?;
+    let mut agent = SubAgent::open(rt.alloc(), small, Form::Compact).expect(&rt, "a sub-agent");
+    assert!(rt; agent.poll(1000, &mut meter) == Err(PollRefusal::TooLarge));
+    let two = polled(rt.alloc(), 144, 2)?;
+    let mut agent = SubAgent::open(rt.alloc(), two, Form::Compact).expect(&rt, "a sub-agent");
+    assert!(rt; agent.poll(999, &mut meter) == Ok(0));
+    assert!(rt;
+        agent.poll(1000, &mut meter) == Err(PollRefusal::MeterFault) && agent.staged() == 1
+    );
+    assert!(rt; agent.poll(1000, &mut meter) == Ok(1) && agent.staged() == 2);
+    assert!(rt; agent.poll(1000, &mut meter) == Ok(0));
     Ok(())
 }
