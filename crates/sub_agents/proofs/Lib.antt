@@ -1,0 +1,16 @@
+pub mod Sizes
+pub mod Lists
+pub mod IdTests
+pub mod SetUps
+pub mod Fits
+pub mod Observed
+pub mod Anew
+pub mod Cuts
+pub mod Sends
+pub mod Taking
+pub mod Keeping
+pub mod Places
+pub mod PollLists
+pub mod PollSteps
+pub mod PollRuns
+pub mod CountersKept

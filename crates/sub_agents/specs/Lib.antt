@@ -1,0 +1,14 @@
+pub mod Setups
+pub mod Faults
+pub mod Opening
+pub mod Ids
+pub mod Packets
+pub mod Staged
+pub mod Sizes
+pub mod Counts
+pub mod SubAgents
+pub mod Fields
+pub mod Answers
+pub mod Outlets
+pub mod Sent
+pub mod Polls
