@@ -5,13 +5,13 @@ use std::process::Abort;
 use std::test::Fail;
 use stream_books::{SourceRecord, StreamRecord};
 
-// What is kept of a stream and of a source, in bytes, with the key under which it is kept.
+// What is kept of a stream and of a source, in bytes, with the key under which it is kept: all of it lies inline.
 #[test]
 fn sizes_of_a_stream_and_a_source(rt: HostRuntime) {
     let stream = size_of::<StreamKey>() + size_of::<StreamRecord>();
     let source = size_of::<SourceKey>() + size_of::<SourceRecord>();
-    assert!(rt; stream <= 512, "a stream takes {stream}");
-    assert!(rt; source <= 1024, "a source takes {source}");
+    assert!(rt; stream <= 1536, "a stream takes {stream}");
+    assert!(rt; source <= 2048, "a source takes {source}");
 }
 
 // The room that is taken at the opening is that of the limits, and never as much once more.

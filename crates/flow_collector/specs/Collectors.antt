@@ -3,7 +3,8 @@ use Rattle.std.specs.Prelude.{◌≡◌, ◌≤◌, List, [], ◌∷◌, length}
 use Rattle.books_spec.specs.declared.limits.Limits.{Limits}
 use Rattle.books_spec.specs.declared.totals.Totals.{Totals}
 use Rattle.books_spec.specs.Items.{Item, Got, Malformed}
-use Rattle.books_spec.specs.Books.{listed_streams, sources_of, source_boots, totals, most_entries}
+use Rattle.books_spec.specs.Books.{listed_streams, sources_of, totals, most_entries}
+use Rattle.books_spec.specs.PlacedSamples.{placed_boots}
 use Rattle.stream_books.specs.Streams.{StreamState}
 use Rattle.stream_books.specs.declared.source.SourceRecord.{SourceRecord}
 use Rattle.collector_tables.specs.declared.keys.StreamKey.{StreamKey}
@@ -35,7 +36,7 @@ pub record StandsFor (s : CollectorState) (l : Limits) (items : List Item) : Typ
   pub source_limit : s.sources.limit ≡ l.sources
   pub streams_stand : StreamsStand l s.streams.entries items
   pub sources_stand : SourcesStand (listed_streams l items) l.sources l.sample_width s.sources.entries
-      (sources_of l items) (λ k. source_boots l k items)
+      (sources_of l items) (λ k. placed_boots l k items)
   pub totals_are : s.totals ≡ totals l items
 
 -- a datagram has at most 8,191 samples
@@ -48,9 +49,9 @@ AreFew (Malformed f ∷ before) = AreFew before
 pub record AreWithin (l : Limits) : Type 0 where
   pub streams : l.streams ≤ 4096
   pub datagrams_from : 1 ≤ l.datagram_width
-  pub datagrams_to : l.datagram_width ≤ 1024
+  pub datagrams_to : l.datagram_width ≤ 8192
   pub samples_from : 1 ≤ l.sample_width
-  pub samples_to : l.sample_width ≤ 1024
+  pub samples_to : l.sample_width ≤ 8192
 
 -- what is always so: it stands for some items, no more than 2^48
 pub record IsCollector (s : CollectorState) : Type 0 where

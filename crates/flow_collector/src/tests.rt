@@ -8,8 +8,8 @@ fn opens_at_the_greatest_limits(rt: HostRuntime) -> Result<(), Fail> {
     let limits = Limits {
         streams: 4_096,
         sources: 65_536,
-        datagram_width: 1_024,
-        sample_width: 1_024,
+        datagram_width: 8_192,
+        sample_width: 8_192,
         boot_slack: 1_073_741_824,
     };
     let seeds = Seeds {

@@ -6,7 +6,7 @@
 #![tactic(auto)]
 
 /// The greatest width of a window, a multiple of 64.
-pub const MAX_WIDTH: u32 = 1024;
+pub const MAX_WIDTH: u32 = 8192;
 
 mod ring;
 mod side;

@@ -19,11 +19,12 @@ const WORDS: usize = MAX_WIDTH as usize / 64;
 /// ```
 #[derive(Debug, Drop)]
 pub struct Ring {
-    words: [u64; WORDS],
     /// How many slots there are.
     slots: usize,
     /// The slot of the newest number.
     head: usize,
+    /// Those behind the slots stay 0.
+    words: [u64; WORDS],
     ghost in_words: { slots ≤ 64 * WORDS },
     ghost whole_words: { slots % 64 ≡ 0 },
     ghost in_ring: { head < slots },
@@ -38,9 +39,9 @@ impl Ring {
         ensures room { width ≤ result.slots }
     {
         Ring {
-            words: [0; WORDS],
             slots: (width as usize + 63) / 64 * 64,
             head: 0,
+            words: [0; WORDS],
         }
     }
 

@@ -12,7 +12,7 @@ pub enum Side {
 
 /// The number that a mark stands for: the one congruent to it mod 2^32 that is at least `newest - 2^31` and
 /// less than `newest + 2^31`.
-fn nearest(mark: u32, newest: i128) -> i128
+pub fn nearest(mark: u32, newest: i128) -> i128
     requires from { pos 0 ≤ℤ newest }
     requires to { newest ≤ℤ pos (2 ^ 100) }
     ensures { result ≡ near mark newest }

@@ -1,5 +1,5 @@
-ghost use Rattle.std.specs.Prelude.{◌≡◌, ◌↔◌, ℕ, ◌+◌, ◌-◌, ◌*◌, ◌^◌, ◌<◌, ◌≤◌, ◌==◌, ◌&&◌, ◌||◌, nat_le, not, min, false, List, [], ◌∷◌, length, pos, ◌-ℤ◌, IsNone};
-ghost use Rattle.count_spec.specs.Windows.{answer, counted};
+ghost use Rattle.std.specs.Prelude.{◌≡◌, ◌↔◌, ℕ, ◌+◌, ◌-◌, ◌*◌, ◌^◌, ◌<◌, ◌≤◌, ◌==◌, ◌&&◌, ◌||◌, nat_le, not, min, false, List, [], ◌∷◌, length, pos, ◌-ℤ◌, int_le, IsNone};
+ghost use Rattle.count_spec.specs.Windows.{answer, counted, near, greatest};
 ghost use Rattle.late_window.specs.Distances.{count_below};
 ghost use Rattle.late_window.specs.Ring.{bit_below};
 ghost use Rattle.late_window.specs.Settled.{IsSettled};
@@ -8,7 +8,7 @@ ghost use Rattle.late_window.specs.Steps.{Begins, Advances, Fills, Passes};
 ghost use Rattle.late_window.specs.declared.TheConstants.{MAX_WIDTH};
 
 use crate::ring::Ring;
-use crate::side::{Side, side_of};
+use crate::side::{Side, nearest, side_of};
 use count_spec::{Entered, Place};
 use std::marker::Model;
 
@@ -144,6 +144,14 @@ impl Window {
             return None;
         }
         Some(self.newest.rem_euclid(4294967296) as u32)
+    }
+
+    /// Whether the number that a mark stands for is the greatest counted one or below it.
+    pub fn is_behind(&self, mark: u32) -> bool
+        ensures { (marks : List ℕ) → StandsFor self.now marks
+            → let top = greatest (counted self.now.width marks) in result ≡ int_le (near mark top) top }
+    {
+        nearest(mark, self.newest) <= self.newest
     }
 
     /// How many marks were entered.

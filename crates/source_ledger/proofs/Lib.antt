@@ -1,5 +1,7 @@
 pub mod Trims
-pub mod Closing
-pub mod BootSteps
-pub mod Values
-pub mod FlowSteps
+mod Closing
+mod BootSteps
+pub mod GenerationCounts
+pub mod NumberSteps
+mod Values
+mod FlowSteps

@@ -12,10 +12,8 @@ use Rattle.count_spec.proofs.Sets.{has-greatest, has-least, has-differs, least-a
 use Rattle.count_spec.proofs.Answers.{number_answer-cases, place-cases}
 use Rattle.count_spec.proofs.Rises.{first_values-numbers}
 use Rattle.books_spec.specs.Views.{last_value}
-use Rattle.source_ledger.specs.Boots.{entered_boots}
 use Rattle.source_ledger.specs.Rises.{greatest_after, least_after, rise_after, risen, ShowsRise}
 use Rattle.source_ledger.specs.declared.rise.Rise.{Rise}
-use Rattle.source_ledger.proofs.Trims.{trim-sum}
 
 -- the values, with one more after this answer
 pub record After (a : Entered) (v : ℕ) (values : List NumberedValue) : Type 0 where
@@ -78,10 +76,10 @@ after-answer width m v (u ∷ before) set e =
     (λ up member. after-none Repeat v (u ∷ before) refl refl refl refl)
     (λ up out. after-place u before v (near m (greatest (numbers (u ∷ before)))) out))
 
--- ---- over boots
+-- ---- over stretches
 
 pub shows-risen : {X : Type 0} (mark value : X → ℕ) (width : ℕ) (r : Rise) (x : X) (current : List X)
-    (closed : List (List X)) → ShowsRise mark value width r (entered_boots (current ∷ closed))
+    (closed : List (List X)) → ShowsRise mark value width r (current ∷ closed)
     → ShowsRise mark value width (risen r (answer width (counted width (map mark current)) (mark x)) (value x))
     ((x ∷ current) ∷ closed)
 shows-risen {X} mark value width r x (c ∷ cs) closed shows =
@@ -98,11 +96,24 @@ shows-risen {X} mark value width r x (c ∷ cs) closed shows =
       least_is = sym after.least_is;
     })
 shows-risen {X} mark value width r x [] closed shows =
-    let trim = trim-sum (λ (b : List X). rise (first_values mark value width b)) closed refl in
+    let old = sum_by-cons (λ (b : List X). rise (first_values mark value width b)) [] closed in
     let new = sum_by-cons (λ (b : List X). rise (first_values mark value width b)) (x ∷ []) closed in
     let total = shows.total_is in
     record {
-      total_is = omega (arith, total, trim, new);
+      total_is = omega (arith, total, old, new);
+      greatest_is = rw (int_eq-same (pos (mark x))) refl;
+      least_is = rw (int_eq-same (pos (mark x))) refl;
+    }
+
+-- a stretch begins
+pub shows-opened : {X : Type 0} (mark value : X → ℕ) (width : ℕ) (r : Rise) (x : X) (closed : List (List X))
+    → ShowsRise mark value width r closed
+    → ShowsRise mark value width (risen r (First Only (pos (mark x))) (value x)) ((x ∷ []) ∷ closed)
+shows-opened {X} mark value width r x closed shows =
+    let new = sum_by-cons (λ (b : List X). rise (first_values mark value width b)) (x ∷ []) closed in
+    let total = shows.total_is in
+    record {
+      total_is = omega (arith, total, new);
       greatest_is = rw (int_eq-same (pos (mark x))) refl;
       least_is = rw (int_eq-same (pos (mark x))) refl;
     }
@@ -118,3 +129,7 @@ shows-last mark value width rate x (c ∷ cs) closed is =
     ap (greatest_after (answer width (counted width (map mark (c ∷ cs))) (mark x)) (value x)) is
     ∙ sym after.greatest_is
 shows-last mark value width rate x [] closed is = rw (int_eq-same (pos (mark x))) refl
+
+pub shows-first : {X : Type 0} (mark value : X → ℕ) (width : ℕ) (x : X) (closed : List (List X))
+    → value x ≡ last_value mark value width ((x ∷ []) ∷ closed)
+shows-first mark value width x closed = rw (int_eq-same (pos (mark x))) refl

@@ -1,4 +1,4 @@
--- The rise of a value over boots, kept as a sum and the values at the ends of the boot that was entered last.
+-- The rise of a value over stretches, kept as a sum and the values at the ends of the current one.
 use Rattle.std.specs.Prelude.{◌≡◌, ℕ, ◌+◌, List}
 use Rattle.count_spec.specs.declared.entered.Place.TheVariants.{Only, Newest, Inside, Least}
 use Rattle.count_spec.specs.declared.entered.Entered.{Entered}
@@ -43,8 +43,8 @@ risen r a value = record {
   at_least = least_after a value r.at_least;
 }
 
--- the rise of this value over these boots, of which the first has an item
-pub record ShowsRise {X : Type 0} (mark value : X → ℕ) (width : ℕ) (r : Rise) (boots : List (List X)) : Type 0 where
-  pub total_is : r.total ≡ rise_over mark value width boots
-  pub greatest_is : r.at_greatest ≡ value_at_greatest (first_values mark value width (current_of boots))
-  pub least_is : r.at_least ≡ value_at_least (first_values mark value width (current_of boots))
+-- the rise of this value over these stretches
+pub record ShowsRise {X : Type 0} (mark value : X → ℕ) (width : ℕ) (r : Rise) (stretches : List (List X)) : Type 0 where
+  pub total_is : r.total ≡ rise_over mark value width stretches
+  pub greatest_is : r.at_greatest ≡ value_at_greatest (first_values mark value width (current_of stretches))
+  pub least_is : r.at_least ≡ value_at_least (first_values mark value width (current_of stretches))

@@ -30,10 +30,10 @@ impl Model for BootLedger {
 }
 
 impl BootLedger {
-    /// An empty ledger, of boot 0. The width of its windows is from 1 to 1,024.
+    /// An empty ledger, of boot 0. The width of its windows is from 1 to 8,192.
     pub fn open(width: u32) -> BootLedger
         requires width_from { 1 ≤ width }
-        requires width_to { width ≤ 1024 }
+        requires width_to { width ≤ 8192 }
         ensures stands { StandsFor result [] }
         ensures width { result.marks.width ≡ width }
         ensures boot { result.boot ≡ 0 }

@@ -1,9 +1,11 @@
 //! Laws of what ledgers stand for. Boots are a list with the current boot first.
 
 ghost use Rattle.std.specs.Prelude.{ℕ, ◌↔◌, List, [], ◌∷◌};
-ghost use Rattle.books_spec.specs.declared.reading.SampleReading.{SampleReading};
+ghost use Rattle.books_spec.specs.SourceViews.{PlacedReading};
 ghost use Rattle.source_ledger.specs.Boots.{BootsState};
 ghost use Rattle.source_ledger.specs.Boots as boots;
+ghost use Rattle.source_ledger.specs.Numbers.{NumbersState};
+ghost use Rattle.source_ledger.specs.Numbers as numbers;
 ghost use Rattle.source_ledger.specs.Flows.{FlowState};
 ghost use Rattle.source_ledger.specs.Flows as flows;
 
@@ -12,6 +14,8 @@ ghost use Rattle.source_ledger.specs.Flows as flows;
 pub fn boots_may_pass()
     ensures marks { (s : BootsState) (marks : List (List ℕ)) →
         boots.StandsFor s marks ↔ boots.StandsFor s ([] ∷ marks) }
-    ensures flows { (s : FlowState) (readings : List (List SampleReading)) →
-        flows.StandsFor s readings ↔ flows.StandsFor s ([] ∷ readings) }
+    ensures numbers { (s : NumbersState) (samples : List (List PlacedReading)) →
+        numbers.StandsFor s samples ↔ numbers.StandsFor s ([] ∷ samples) }
+    ensures flows { (s : FlowState) (samples : List (List PlacedReading)) →
+        flows.StandsFor s samples ↔ flows.StandsFor s ([] ∷ samples) }
 {}

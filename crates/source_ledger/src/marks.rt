@@ -1,6 +1,6 @@
-ghost use Rattle.std.specs.Prelude.{◌≡◌, ℕ, ◌+◌, ◌^◌, ◌<◌, ◌≤◌, cond, List, [], ◌∷◌, length};
+ghost use Rattle.std.specs.Prelude.{◌≡◌, ℕ, ◌+◌, ◌^◌, ◌<◌, ◌≤◌, cond, int_le, List, [], ◌∷◌, length};
 ghost use Rattle.std.specs.List.{sum_by};
-ghost use Rattle.count_spec.specs.Windows.{answer, counted, is_repeat, is_late};
+ghost use Rattle.count_spec.specs.Windows.{answer, counted, near, greatest, is_repeat, is_late};
 ghost use Rattle.books_spec.specs.Views.{plain_view};
 ghost use Rattle.source_ledger.specs.Marks.{StandsFor};
 
@@ -15,18 +15,18 @@ pub struct MarkLedger {
     width: u32,
     /// How many marks were entered.
     entered: u64,
-    /// How many numbers were issued in the closed stretches.
-    issued: u128,
-    /// How many of them were received.
-    received: u64,
-    /// How many of them are lost, with those that were pending when their stretch was closed.
-    lost: u128,
     /// How many marks of all stretches brought a number once more.
     repeated: u64,
     /// How many marks of all stretches came too late.
     late: u64,
     /// The numbers of the current stretch.
     window: Window,
+    /// How many numbers were issued in the closed stretches.
+    issued: u128,
+    /// How many of them were received.
+    received: u64,
+    /// How many of them are lost, with those that were pending when their stretch was closed.
+    lost: u128,
 }
 
 impl Model for MarkLedger {
@@ -42,10 +42,10 @@ impl Model for MarkLedger {
 }
 
 impl MarkLedger {
-    /// Nothing was entered. The width is from 1 to 1,024.
+    /// Nothing was entered. The width is from 1 to 8,192.
     pub fn open(width: u32) -> MarkLedger
         requires width_from { 1 ≤ width }
-        requires width_to { width ≤ 1024 }
+        requires width_to { width ≤ 8192 }
         ensures stands { StandsFor result [] }
         ensures width { result.width ≡ width }
         ensures entered { result.entered ≡ 0 }
@@ -53,12 +53,12 @@ impl MarkLedger {
         MarkLedger {
             width,
             entered: 0,
-            issued: 0,
-            received: 0,
-            lost: 0,
             repeated: 0,
             late: 0,
             window: Window::open(width),
+            issued: 0,
+            received: 0,
+            lost: 0,
         }
     }
 
@@ -77,6 +77,14 @@ impl MarkLedger {
         self.late += lates(answer);
         self.entered += 1;
         answer
+    }
+
+    /// Whether the number that a mark stands for in the current stretch is the greatest counted one or below it.
+    pub fn is_behind(&self, mark: u32) -> bool
+        ensures { (current : List ℕ) (closed : List (List ℕ)) → StandsFor self.now (current ∷ closed)
+            → let top = greatest (counted self.now.width current) in result ≡ int_le (near mark top) top }
+    {
+        self.window.is_behind(mark)
     }
 
     /// Closes the current stretch: what was pending is lost, and an empty stretch is the current one.

@@ -1,0 +1,4 @@
+pub mod Records
+pub mod Counters
+pub mod Ledgers
+pub mod Fields
