@@ -1,12 +1,14 @@
 #!/usr/bin/env python3
 """Makes a capture for measurements: the same bytes for the same seed, size and kind.
 
-    bench/make_capture.py SEED BYTES KIND FILE [--malformed PER_MILLE] [--streams STREAMS]
+    bench/make_capture.py SEED BYTES KIND FILE [--malformed PER_MILLE] [--streams STREAMS] [--padding PADDING]
 
 KIND is `plain`, datagrams of 28 to 1,400 bytes whose samples have a format outside the standard, or `flows`,
 datagrams of about six flow samples, with a counters sample in every twentieth. The capture ends with the entry
 that reaches BYTES. With --malformed about that many of a thousand entries are malformed datagrams. The datagrams are
 of STREAMS sub-agents, 8 unless said otherwise, each with four sources of flow samples and four of counters samples.
+PADDING is `none`, where each sampled header has 128 bytes, or `zero` or `stray`, where it has 126 and two bytes of
+padding behind it, which are zero or not.
 """
 import argparse
 import random
@@ -55,14 +57,18 @@ def foreign_samples(rng, noise):
     return samples
 
 
-def flow_records(rng):
-    """A raw header record of 128 bytes and a switch record."""
+def flow_records(rng, padding):
+    """A raw header record and a switch record."""
     ethernet = rng.randbytes(12) + b"\x08\x00"
     ipv4 = struct.pack(">BBHHHBBH", 0x45, 0, 1400, rng.randrange(1 << 16), 0x4000, 64, 6, 0) + rng.randbytes(8)
     tcp = struct.pack(">HHIIHHI", rng.randrange(1024, 1 << 16), 443, 1, 1, 0x5010, 512, 0)
     header = (ethernet + ipv4 + tcp + rng.randbytes(128))[:128]
+    length = 128
+    if padding != "none":
+        length = 126
+        header = header[:length] + (bytes(2) if padding == "zero" else b"\x5a\xa5")
     vlan = rng.randrange(1, 4095)
-    return (struct.pack(">IIIIII", 1, 144, 1, 1418, 4, 128) + header
+    return (struct.pack(">IIIIII", 1, 144, 1, 1418, 4, length) + header
             + struct.pack(">IIIIII", 1001, 16, vlan, 0, vlan, 0))
 
 
@@ -96,11 +102,11 @@ def broken(rng, datagram):
     return rng.choice((datagram[:len(datagram) // 2], b"\0\0\0\4" + datagram[4:], datagram + bytes(4)))
 
 
-def entries(rng, kind, per_mille, count):
+def entries(rng, kind, per_mille, count, padding):
     """The entries of an endless capture of so many streams."""
     streams = [Stream(number, rng) for number in range(count)]
     noise = rng.randbytes(1 << 20)
-    records = [flow_records(rng) for _ in range(1024)]
+    records = [flow_records(rng, padding) for _ in range(1024)]
     arrival = 1_000
     while True:
         stream = streams[rng.randrange(count)]
@@ -133,8 +139,10 @@ def main():
     parser.add_argument("file")
     parser.add_argument("--malformed", type=int, default=0, metavar="PER_MILLE")
     parser.add_argument("--streams", type=int, default=8)
+    parser.add_argument("--padding", choices=("none", "zero", "stray"), default="none")
     words = parser.parse_args()
-    made = entries(random.Random(f"{words.kind} {words.seed}"), words.kind, words.malformed, words.streams)
+    rng = random.Random(f"{words.kind} {words.seed}")
+    made = entries(rng, words.kind, words.malformed, words.streams, words.padding)
     with open(words.file, "wb") as file:
         write_capture(file, words.bytes, made)
 

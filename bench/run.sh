@@ -26,11 +26,11 @@ if command -v cc > /dev/null; then
   walks=$folder
 fi
 
-# A capture of a kind, of so many bytes and streams.
+# A capture of a kind, of so many bytes and streams, whose headers have such padding.
 made() {
-  capture=$folder/$1-$2-$3.sflc
+  capture=$folder/$1-$2-$3-$4.sflc
   if [ ! -e "$capture" ]; then
-    python3 bench/make_capture.py 1 "$2" "$1" "$capture.part" --streams "$3"
+    python3 bench/make_capture.py 1 "$2" "$1" "$capture.part" --streams "$3" --padding "$4"
     mv "$capture.part" "$capture"
   fi
 }
@@ -39,19 +39,23 @@ measure() {
   python3 bench/measure.py "$capture" "$copy" "sflow $1" ${walks:+"$walks/$2"}
 }
 
-made plain "$size" 8
+made plain "$size" 8 none
 measure check walk
-made flows "$size" 8
+made flows "$size" 8 none
 for command in check show canon; do measure "$command" walk; done
 measure replay gaps
+for padding in zero stray; do
+  made flows "$size" 8 "$padding"
+  measure canon walk
+done
 
 # The cost of a datagram and the peak memory at the greatest limits, from one stream to 4,096 and over longer captures.
 greatest="replay --streams 4096 --sources 65536 --datagram-width 1024"
 for streams in 1 256 4096; do
-  made flows "$size" "$streams"
+  made flows "$size" "$streams" none
   measure "$greatest" gaps
 done
 for bytes in 12800000 1280000000; do
-  made flows "$bytes" 256
+  made flows "$bytes" 256 none
   measure "$greatest" gaps
 done

@@ -143,6 +143,29 @@ def gateway(body):
     return f"  gateway nexthop {hop} {systems} path {path} communities {communities} localpref {preference}{body.tail()}"
 
 
+def user(body):
+    (source, name), (destination, other) = [(body.word(), body.opaque()) for _ in range(2)]
+    return f"  user src {source} {name.hex() or '-'} dst {destination} {other.hex() or '-'}{body.tail()}"
+
+
+def url(body):
+    direction, path, host = body.word(), body.opaque(), body.opaque()
+    return f"  url direction {direction} url {path.hex() or '-'} host {host.hex() or '-'}{body.tail()}"
+
+
+def mpls(body):
+    hop, came_in, went_out = body.address(), body.words(body.word()), body.words(body.word())
+    return f"  mpls nexthop {hop} in {list_text(came_in)} out {list_text(went_out)}{body.tail()}"
+
+
+def nat(body):
+    return f"  nat src {body.address()} dst {body.address()}{body.tail()}"
+
+
+def processor(body):
+    return numbers_text("processor", [*body.words(3), body.hyper(), body.hyper()], body)
+
+
 def interface(body):
     numbers = [*body.words(2), body.hyper(), *body.words(2), body.hyper(), *body.words(6), body.hyper(), *body.words(6)]
     return numbers_text("if", numbers, body)
@@ -157,8 +180,8 @@ def vlan(body):
 
 
 FLOWS = {1: header, 2: ethernet, 3: packet("ipv4", 4, "tos"), 4: packet("ipv6", 16, "priority"), 1001: switch,
-         1002: router, 1003: gateway}
-COUNTERS = {1: interface, 2: dot3, 5: vlan}
+         1002: router, 1003: gateway, 1004: user, 1005: url, 1006: mpls, 1007: nat}
+COUNTERS = {1: interface, 2: dot3, 5: vlan, 1001: processor}
 
 
 def record_of(table):

@@ -11,7 +11,7 @@ import struct
 import sys
 
 OTHER_FORMATS = (5, 7, 9 * 4096 + 1, 4413 * 4096 + 1)
-COUNTERS = {1: 88, 2: 52, 5: 28}
+COUNTERS = {1: 88, 2: 52, 5: 28, 1001: 28}
 
 
 class Maker:
@@ -56,6 +56,9 @@ class Maker:
     def segment(self):
         return word(1 + self.below(2)) + self.words()
 
+    def user(self):
+        return self.noise(4) + self.opaque(self.noise(self.below(10)))
+
     def gateway(self):
         return self.address() + self.noise(12) + self.many(self.segment) + self.words() + self.noise(4)
 
@@ -71,6 +74,10 @@ class Maker:
             1001: lambda: self.noise(16),
             1002: lambda: self.address() + self.noise(8),
             1003: self.gateway,
+            1004: lambda: self.user() + self.user(),
+            1005: lambda: self.noise(4) + self.opaque(self.noise(self.below(20))) + self.opaque(self.noise(self.below(20))),
+            1006: lambda: self.address() + self.words() + self.words(),
+            1007: lambda: self.address() + self.address(),
         }
         form = self.rng.choice((*makers, 1003, None))
         return self.frame(form, makers[form]()) if form else self.other()
@@ -90,7 +97,7 @@ class Maker:
         how = self.rng.random()
         if how < 0.6:
             at = 4 * self.below(len(data) // 4)
-            value = self.rng.choice((0, 1, 2, 3, 4, 5, 1001, 1002, 1003, self.below(100), 2**32 - 1))
+            value = self.rng.choice((0, 1, 2, 3, 4, 5, 1001, 1002, 1003, 1004, 1006, 1007, self.below(100), 2**32 - 1))
             return data[:at] + word(value) + data[at + 4 :]
         if how < 0.8:
             return data[: self.below(len(data) + 1)]

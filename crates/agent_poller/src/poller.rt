@@ -67,6 +67,13 @@ impl Poller {
         }
     }
 
+    /// The source that it polls.
+    pub fn source(&self) -> SourceId
+        ensures { result ≡ self.now.source }
+    {
+        self.source
+    }
+
     /// Whether a poll is due at this uptime, in ms: at least `every` ms, mod 2^32, have gone by since the last one.
     pub fn due(&self, now: u32) -> bool
         ensures value { result ≡ is_due_after self.now.every self.now.last now }

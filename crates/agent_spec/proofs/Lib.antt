@@ -7,3 +7,6 @@ pub mod Begins
 pub mod Prefixes
 pub mod Sent
 pub mod Turns
+pub mod Stages
+pub mod Sized
+pub mod SetUps

@@ -4,7 +4,7 @@ use Rattle.std.specs.List.{AllByRecursion, filter}
 use Rattle.agent_spec.specs.Sources.{Source, same_source, Turn, FlowSetup, CounterSetup}
 use Rattle.agent_spec.specs.Samples.{Sample, Setup}
 use Rattle.agent_spec.specs.Events.{Event, Observe, Poll, Send, Reset}
-use Rattle.agent_spec.specs.Boots.{Boot, is_sample_of}
+use Rattle.agent_spec.specs.Boots.{Boot, is_sample_of, IsAmong}
 
 -- the samples of a source in a generation
 abbrev pub samples_in : Turn → Boot → List Sample
@@ -45,4 +45,9 @@ IsOfSetup f (Reset other) = Unit {0}
 -- this source has no other setup
 pub record IsOnlySetup (f : FlowSetup) (s : Setup) (events : List Event) : Type 0 where
   pub packets : AllByRecursion (IsOfSetup f) events
+  pub counters : AllByRecursion (λ (c : CounterSetup). same_source f.source c.source ≡ false) s.counters
+
+-- the source of this setup has no other one
+pub record HasOneSetup (f : FlowSetup) (s : Setup) : Type 0 where
+  pub flows : (g : FlowSetup) → IsAmong g s.flows → same_source f.source g.source ≡ true → g ≡ f
   pub counters : AllByRecursion (λ (c : CounterSetup). same_source f.source c.source ≡ false) s.counters

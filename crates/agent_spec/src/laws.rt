@@ -6,8 +6,8 @@ ghost use Rattle.agent_spec.specs.Sources.{Source, Turn, FlowSetup};
 ghost use Rattle.agent_spec.specs.Samples.{Setup};
 ghost use Rattle.agent_spec.specs.Events.{Event, generation_after};
 ghost use Rattle.agent_spec.specs.Marks.{IsMarked, is_marked};
-ghost use Rattle.agent_spec.specs.Boots.{happened, seen_in, issued_in, dropped_in, last_poll};
-ghost use Rattle.agent_spec.specs.Orders.{samples_in, AreNumberedFrom, NeverFall, HasFirst, IsOnlySetup};
+ghost use Rattle.agent_spec.specs.Boots.{happened, seen_in, issued_in, dropped_in, last_poll, MayHappen};
+ghost use Rattle.agent_spec.specs.Orders.{samples_in, AreNumberedFrom, NeverFall, HasFirst, IsOnlySetup, HasOneSetup};
 
 /// The test finds exactly the packets that are marked.
 pub fn marks_are_sums()
@@ -39,4 +39,17 @@ pub fn generations_begin_empty()
     ensures polled { (s : Setup) (events : List Event) (turn : Turn)
         → generation_after turn.source events < turn.generation
         → last_poll turn (happened s events).polled ≡ 0 }
+{}
+
+/// Of a source with one setup each packet belongs to it, and its numbers begin there.
+pub fn setups_are_known()
+    ensures only { (f : FlowSetup) (s : Setup) (events : List Event) → HasOneSetup f s → MayHappen s events
+        → IsOnlySetup f s events }
+    ensures first { (f : FlowSetup) (s : Setup) (events : List Event) → HasOneSetup f s → MayHappen s events
+        → HasFirst f.source f.first s events }
+{}
+
+/// The stage never holds more samples than it has places.
+pub fn stage_has_room()
+    ensures { (s : Setup) (events : List Event) → MayHappen s events → length (happened s events).staged ≤ s.stage }
 {}

@@ -1,13 +1,13 @@
 //! What holds of the datagrams of an agent.
 
-ghost use Rattle.std.specs.Prelude.{◌≡◌, ℕ, ◌<◌, ◌≤◌, ◌++◌, [], ◌∷◌, Bool, true, false, List, length, take};
+ghost use Rattle.std.specs.Prelude.{◌≡◌, ℕ, ◌<◌, ◌≤◌, ◌++◌, [], ◌∷◌, Bool, true, false, List, length, take, nat_le};
 ghost use Rattle.std.specs.List.{AllByRecursion};
-ghost use Rattle.agent_spec.specs.Samples.{Sample, Setup};
+ghost use Rattle.agent_spec.specs.Samples.{Sample, Datagram, Setup};
 ghost use Rattle.agent_spec.specs.Events.{Event};
 ghost use Rattle.agent_spec.specs.Packing.{joined, longest, cut};
 ghost use Rattle.agent_spec.specs.Boots.{happened};
 ghost use Rattle.agent_spec.specs.Sending.{samples_sent, AreCountedFrom};
-ghost use Rattle.agent_spec.specs.Spelled.{sent_bytes, fits_in};
+ghost use Rattle.agent_spec.specs.Spelled.{Sender, sent_bytes, fits_in};
 ghost use Rattle.agent_spec.specs.Rows.{small_sender, all_counters, counter_reading, flow_at};
 
 /// Samples cut into longest prefixes are all of them, in their order.
@@ -28,6 +28,12 @@ pub fn datagrams_fit()
     ensures { (fits : List Sample → Bool) (samples : List Sample)
         → AllByRecursion (λ (s : Sample). fits (s ∷ []) ≡ true) samples
         → AllByRecursion (λ (d : List Sample). fits d ≡ true) (cut fits samples) }
+{}
+
+/// Whether a datagram has room for its samples doesn't depend on its number and its uptime.
+pub fn room_for_samples()
+    ensures { (sender : Sender) (d : Datagram)
+        → fits_in sender d.samples ≡ nat_le (length (sent_bytes sender d)) sender.max_datagram }
 {}
 
 /// In a boot each sample that was issued is staged or was sent, once and in order of issue.

@@ -2,3 +2,4 @@ pub mod Arrays
 pub mod WordRuns
 pub mod Paths
 pub mod OnePath
+pub mod WordSpellings

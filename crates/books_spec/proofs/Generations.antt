@@ -1,6 +1,5 @@
 -- One sample more, and what becomes of the generations of its boot.
-use Rattle.std.proofs.Common.{◌≡◌, ℕ, suc, ◌+◌, ◌≤◌, Bool, true, false, cond, ◌&&◌, List, [], ◌∷◌, length, map, refl, sym, ap, ◌∙◌, true≢false, arith}
-use Rattle.std.specs.List.{count_by, sum_by}
+use Rattle.std.proofs.Common.{◌≡◌, ℕ, ◌+◌, ◌≤◌, true, false, cond, List, [], ◌∷◌, length, map, refl, ap, ◌∙◌, arith}
 use Rattle.count_spec.specs.Windows.{answer, counted, is_first}
 use Rattle.count_spec.specs.Stretches.{placed, with_stale}
 use Rattle.count_spec.specs.declared.entered.Entered.{Entered}
@@ -8,8 +7,6 @@ use Rattle.count_spec.specs.declared.entered.Entered.TheVariants.{First, Repeat,
 use Rattle.count_spec.specs.declared.stretch_place.StretchPlace.{StretchPlace}
 use Rattle.count_spec.specs.declared.stretch_place.StretchPlace.TheVariants.{Current, Next, Stale}
 use Rattle.books_spec.specs.declared.sample_place.SamplePlace.{SamplePlace}
-use Rattle.books_spec.specs.declared.booked.Booked.{Booked}
-use Rattle.books_spec.specs.declared.booked.Booked.TheVariants as bookings
 use Rattle.books_spec.specs.Generations.{later, greatest_place, first_places, with_place, opening_place, opens, is_before_opening, generation_place, generations, stale_samples, booked, booked_at}
 
 module _ {X : Type 0} (place : X → SamplePlace) (mark : X → ℕ) where

@@ -8,3 +8,8 @@ pub mod Generations
 pub mod GenerationViews
 pub mod NoResets
 pub mod Placed
+pub mod Rooms
+pub mod Parting
+pub mod Mapped
+pub mod PlaceOrder
+pub mod Seen

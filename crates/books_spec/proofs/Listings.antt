@@ -207,7 +207,7 @@ module _ {K : Type 0} (same : K → K → Bool) where
 
     -- ---- what arrived is among the first arrivals
 
-    with_key-has : (keys : List K) (key : K) → among same (with_key same keys key) key ≡ true
+    pub with_key-has : (keys : List K) (key : K) → among same (with_key same keys key) key ≡ true
     with_key-has keys key = go (among same keys key) refl
       where
         go : (b : Bool) → among same keys key ≡ b → among same (cond b keys (keys ++ key ∷ [])) key ≡ true

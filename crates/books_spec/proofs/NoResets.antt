@@ -1,16 +1,14 @@
 -- Boots of one generation each: their views are those of the boots.
-use Rattle.std.proofs.Common.{◌≡◌, ℕ, ◌+◌, ◌≤◌, Bool, true, false, cond, List, [], ◌∷◌, ◌++◌, length, map, refl, sym, ap, ◌∙◌, arith}
-use Rattle.std.specs.List.{count_by, sum_by, AllByRecursion}
+use Rattle.std.proofs.Common.{◌≡◌, ℕ, ◌≤◌, Bool, true, false, cond, List, [], ◌∷◌, ◌++◌, length, map, refl, sym, ap, ◌∙◌, arith}
+use Rattle.std.specs.List.{count_by, AllByRecursion}
 use Rattle.std.specs.Prelude.{nat_le}
 use Rattle.std.proofs.lemmas.Bool.{le-leb}
 use Rattle.std.proofs.lemmas.List.Sums.{sum_by-cons}
 use Rattle.count_spec.specs.Stretches.{placed, with_stale}
 use Rattle.count_spec.specs.Rise.{rise, first_values}
-use Rattle.count_spec.specs.declared.stretch_place.StretchPlace.{StretchPlace}
 use Rattle.count_spec.specs.declared.stretch_place.StretchPlace.TheVariants.{Current, Next}
 use Rattle.count_spec.proofs.Counts.{count_by-cons}
 use Rattle.books_spec.specs.declared.sample_place.SamplePlace.{SamplePlace}
-use Rattle.books_spec.specs.declared.source_view.SourceLedgerView.{SourceLedgerView}
 use Rattle.books_spec.specs.Generations.{opens, generation_place, generations, stale_samples}
 use Rattle.books_spec.specs.Views.{figures_of, closing, sum_of, closed_figures, marks_in, rise_over, last_value, view_with}
 use Rattle.books_spec.specs.SourceViews.{joined, with_current, over_boots, source_stretches, generation_count, stale_count, PlacedReading, place_in, placed_mark, placed_pool, placed_drops, placed_rate, stretches_view, source_view}

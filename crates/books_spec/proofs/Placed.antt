@@ -1,6 +1,6 @@
 -- Samples with their places, and what is left of them without.
-use Rattle.std.proofs.Common.{◌≡◌, ℕ, suc, Bool, true, false, cond, Option, Some, None, List, [], ◌∷◌, length, map, ℤ, refl, sym, ap, ◌∙◌, arith}
-use Rattle.std.specs.List.{filter_map, cons_option, sum_by}
+use Rattle.std.proofs.Common.{◌≡◌, ℕ, suc, Bool, true, false, Option, Some, None, List, [], ◌∷◌, length, map, ℤ, refl, sym, ap, ◌∙◌, arith}
+use Rattle.std.specs.List.{filter_map, cons_option, count_by, sum_by}
 use Rattle.std.proofs.lemmas.List.Sums.{sum_by-cons}
 use Rattle.count_spec.specs.Windows.{answer, counted}
 use Rattle.count_spec.specs.Rise.{value_at_greatest, rise, with_value, first_values}
@@ -9,11 +9,12 @@ use Rattle.count_spec.specs.declared.entered.Entered.{Entered}
 use Rattle.count_spec.specs.declared.entered.Entered.TheVariants.{First, Repeat, Late}
 use Rattle.books_spec.specs.declared.limits.Limits.{Limits}
 use Rattle.books_spec.specs.declared.reading.SampleReading.{SampleReading}
-use Rattle.books_spec.specs.declared.sample_place.SamplePlace.{SamplePlace}
 use Rattle.books_spec.specs.Items.{SourceId, Sample, Datagram, stamp_of, Item, Source}
+use Rattle.books_spec.specs.Listing.{same_stream, same_source, among}
 use Rattle.books_spec.specs.Views.{figures_over, marks_in, rise_over, last_value, view_with}
-use Rattle.books_spec.specs.Books.{onto, taken_of, samples_at, first_samples, reading_of, readings, source_boots, stream_boots, readings_view, mark_in, pool_in, drops_in, rate_in}
-use Rattle.books_spec.specs.SourceViews.{PlacedReading, placed_mark, placed_pool, placed_drops, placed_rate, stretches_view}
+use Rattle.books_spec.specs.Books.{onto, taken_of, samples_at, first_samples, reading_of, readings, source_boots, stream_boots, listed_streams, sources_of, readings_view, mark_in, pool_in, drops_in, rate_in}
+use Rattle.books_spec.specs.SourceViews.{PlacedReading, stretches_view}
+use Rattle.books_spec.proofs.Entered.{readings-are-entered}
 use Rattle.books_spec.specs.PlacedSamples.{PlacedSample, placed_from, placed_at, first_placed, read_at, placed_reading_of, placed_readings, placed_boots}
 
 abbrev sample_in : PlacedSample → Sample
@@ -124,3 +125,25 @@ view-of true width stretches =
     sym (λ j. view_with (figures j) (pool j) (drops j) (rate j))
 view-of false width stretches =
     sym (ap (λ marks. view_with (figures_over width marks) 0 0 0) (marks-of reading_in mark_in stretches))
+
+-- ---- as many as were entered
+
+lengths-of : {X Y : Type 0} (f : X → Y) (xs : List (List X)) → sum_by length (map (map f) xs) ≡ sum_by length xs
+lengths-of f [] = refl
+lengths-of {X} {Y} f (x ∷ more) =
+    let new = sum_by-cons (λ (ys : List Y). length ys) (map f x) (map (map f) more) in
+    let old = sum_by-cons (λ (xs : List X). length xs) x more in
+    let later = lengths-of f more in
+    let here = mapped x in
+    omega (arith, new, old, later, here)
+  where
+    mapped : (xs : List X) → length (map f xs) ≡ length xs
+    mapped [] = refl
+    mapped (x ∷ xs) = ap suc (mapped xs)
+
+pub entered-are : (l : Limits) (source : Source) (items : List Item)
+    → among same_stream (listed_streams l items) source.stream ≡ true
+    → sum_by length (placed_boots l source items) ≡ count_by (same_source source) (sources_of l items)
+entered-are l source items there =
+    sym (lengths-of reading_in (placed_boots l source items)) ∙ ap (sum_by length) (boots-are l source items)
+    ∙ readings-are-entered l source items there

@@ -3,7 +3,6 @@
 -- datagram stand in the datagram's order, and what is listed in order of first arrival.
 use Rattle.std.specs.Prelude.{ℕ, ◌+◌, Bool, true, false, cond, List, [], ◌∷◌, length, map, Option, Some, None, nat_le}
 use Rattle.std.specs.List.{filter, filter_map, count_by, position_or_len}
-use Rattle.wire_spec.specs.declared.fault.Fault.{Fault}
 use Rattle.count_spec.specs.Windows.{answer, counted}
 use Rattle.count_spec.specs.Boots.{sequences, boot_place, boots, stale_items}
 use Rattle.count_spec.specs.declared.stretch_place.StretchPlace.{StretchPlace}

@@ -1,8 +1,7 @@
 -- Short forms in which the worked rows of generations are written.
 use Rattle.std.specs.Prelude.{ℕ, true, false, List, [], ◌∷◌, pos}
-use Rattle.books_spec.specs.declared.reading.SampleReading.{SampleReading}
 use Rattle.books_spec.specs.declared.source_view.SourceLedgerView.{SourceLedgerView}
-use Rattle.books_spec.specs.Items.{SourceId, Item, flow_sample}
+use Rattle.books_spec.specs.Items.{Item, flow_sample}
 use Rattle.books_spec.specs.Views.{Figures, view_with}
 use Rattle.books_spec.specs.Rows.{reading}
 use Rattle.books_spec.specs.BookRows.{datagram_of}

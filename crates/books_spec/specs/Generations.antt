@@ -3,7 +3,7 @@
 -- A reset shows in two things: the sample stands behind all others of the generation, and its number isn't above them.
 -- Samples are of any type that shows a place and a mark. Every list has the LATEST FIRST, and the current generation
 -- first.
-use Rattle.std.specs.Prelude.{ℕ, Bool, true, false, cond, ◌||◌, ◌&&◌, nat_lt, List, [], ◌∷◌, map, ℤ, pos, int_lt, int_le}
+use Rattle.std.specs.Prelude.{ℕ, Bool, false, cond, ◌||◌, ◌&&◌, nat_lt, List, [], ◌∷◌, map, ℤ, pos, int_lt, int_le}
 use Rattle.std.specs.Ordering.{int_eq}
 use Rattle.count_spec.specs.Windows.{near, greatest, answer, counted}
 use Rattle.count_spec.specs.Stretches.{stretches, stale_among}

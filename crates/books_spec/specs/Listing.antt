@@ -1,6 +1,6 @@
 -- Keys in order of first arrival, of which the first are listed. The keys that arrived are given with the LATEST
 -- FIRST; those listed stand with the first to arrive first.
-use Rattle.std.specs.Prelude.{◌≡◌, ℕ, ◌==◌, ◌&&◌, not, Bool, true, false, cond, List, [], ◌∷◌, ◌++◌, take}
+use Rattle.std.specs.Prelude.{ℕ, ◌==◌, ◌&&◌, not, Bool, true, false, cond, List, [], ◌∷◌, ◌++◌, take}
 use Rattle.std.specs.List.{list_any, count_by}
 use Rattle.std.specs.Str.{bytes_eq}
 use Rattle.wire_spec.specs.Heads.{AgentAddress, unknown, ipv4, ipv6}

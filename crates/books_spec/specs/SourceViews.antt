@@ -69,6 +69,14 @@ placed_drops r = r.reading.drops
 abbrev pub placed_rate : PlacedReading → ℕ
 placed_rate r = r.reading.rate
 
+-- what a generation goes by: a place and a mark
+pub record PlacedMark : Type 0 where
+  pub place : SamplePlace
+  pub mark : ℕ
+
+abbrev pub mark_at : SamplePlace → ℕ → PlacedMark
+mark_at place mark = record { place = place; mark = mark }
+
 -- the view of stretches of flow samples, or of counters samples
 abbrev pub stretches_view : Bool → ℕ → List (List PlacedReading) → LedgerView
 stretches_view true width stretches = flow_view placed_mark placed_pool placed_drops placed_rate width stretches

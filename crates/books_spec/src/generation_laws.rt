@@ -9,11 +9,12 @@ ghost use Rattle.books_spec.specs.declared.sample_place.SamplePlace.{SamplePlace
 ghost use Rattle.books_spec.specs.declared.booked.Booked.TheVariants.{Entered, Past};
 ghost use Rattle.books_spec.specs.declared.limits.Limits.{Limits};
 ghost use Rattle.books_spec.specs.Items.{Item, Source};
-ghost use Rattle.books_spec.specs.Books.{source_books};
-ghost use Rattle.books_spec.specs.Generations.{later, greatest_place, first_places, opening_place, opens, is_before_opening, generation_place, generations, stale_samples, booked};
-ghost use Rattle.books_spec.specs.SourceViews.{joined, source_stretches, generation_count, stale_count, PlacedReading, place_in, placed_mark, source_view};
-ghost use Rattle.books_spec.specs.PlacedSamples.{placed_boots};
-ghost use Rattle.books_spec.specs.WholeBooks.{source_line};
+ghost use Rattle.books_spec.specs.Listing.{same_stream, same_source, among};
+ghost use Rattle.books_spec.specs.Books.{listed_streams, sources_of, source_books};
+ghost use Rattle.books_spec.specs.Generations.{is_before, later, greatest_place, first_places, opening_place, opens, is_before_opening, generation_place, generations, stale_samples, booked};
+ghost use Rattle.books_spec.specs.SourceViews.{joined, source_stretches, generation_count, stale_count, PlacedReading, place_in, placed_mark, mark_at, source_view};
+ghost use Rattle.books_spec.specs.PlacedSamples.{placed_boots, InterfaceSample, interface_boots};
+ghost use Rattle.books_spec.specs.WholeBooks.{source_line, place_seen, mark_seen};
 
 /// One sample more opens the next generation, or is stale, or is in the current one. The first sample opens the first.
 pub fn a_sample_has_its_place<T>()
@@ -144,4 +145,50 @@ pub fn without_resets_boots_are_shown()
     ensures none_stale { (width : ℕ) (boots : List (List PlacedReading))
         → AllByRecursion (λ boot. length (generations place_in placed_mark width boot) ≤ 1) boots
         → stale_count place_in placed_mark width boots ≡ 0 }
+{}
+
+/// Of a source of a listed stream, each sample that was entered is in one generation, or stale.
+pub fn entered_samples_are_conserved()
+    ensures { (l : Limits) (items : List Item) (source : Source) →
+        among same_stream (listed_streams l items) source.stream ≡ true
+        → sum_by length (source_stretches place_in placed_mark l.sample_width (placed_boots l source items))
+        + (source_line l items source).view.stale ≡ count_by (same_source source) (sources_of l items) }
+{}
+
+/// Generations depend on the places and the marks of samples alone, whatever else a sample has.
+pub fn only_places_and_marks_matter<T, U>()
+    ensures generations { (f : T → U) (place : U → SamplePlace) (mark : U → ℕ) (width : ℕ) (samples : List T) →
+        generations place mark width (map f samples)
+        ≡ map (map f) (generations (λ x. place (f x)) (λ x. mark (f x)) width samples) }
+    ensures stale { (f : T → U) (place : U → SamplePlace) (mark : U → ℕ) (width : ℕ) (samples : List T) →
+        stale_samples place mark width (map f samples)
+        ≡ map f (stale_samples (λ x. place (f x)) (λ x. mark (f x)) width samples) }
+    ensures stretches { (f : T → U) (place : U → SamplePlace) (mark : U → ℕ) (width : ℕ) (boots : List (List T)) →
+        source_stretches place mark width (map (map f) boots)
+        ≡ map (map f) (source_stretches (λ x. place (f x)) (λ x. mark (f x)) width boots) }
+    ensures count { (f : T → U) (place : U → SamplePlace) (mark : U → ℕ) (width : ℕ) (boots : List (List T)) →
+        generation_count place mark width (map (map f) boots)
+        ≡ generation_count (λ x. place (f x)) (λ x. mark (f x)) width boots }
+    ensures stale_count { (f : T → U) (place : U → SamplePlace) (mark : U → ℕ) (width : ℕ) (boots : List (List T)) →
+        stale_count place mark width (map (map f) boots)
+        ≡ stale_count (λ x. place (f x)) (λ x. mark (f x)) width boots }
+{}
+
+/// Places stand in one order, and the greatest of some is before none of them.
+pub fn places_stand_in_order()
+    ensures not_before_itself { (p : SamplePlace) → is_before p p ≡ false }
+    ensures in_turn { (p q r : SamplePlace) → is_before p q ≡ true → is_before q r ≡ true → is_before p r ≡ true }
+    ensures one_of_two { (p q : SamplePlace) → is_before p q ≡ false → is_before q p ≡ false → p ≡ q }
+    ensures greatest { (p : SamplePlace) (more : List SamplePlace) →
+        AllByRecursion (λ q. is_before (greatest_place (p ∷ more)) q ≡ false) (p ∷ more) }
+{}
+
+/// The interface counters of a source are summed over the generations that its view has: sample by sample they have the
+/// same places and marks.
+pub fn interface_counters_share_the_generations()
+    ensures { (l : Limits) (width : ℕ) (source : Source) (items : List Item) →
+        map (map (λ (s : InterfaceSample). mark_at s.place s.mark))
+        (source_stretches place_seen mark_seen width (interface_boots l source items))
+        ≡ map (map (λ (r : PlacedReading). mark_at r.place r.reading.sequence))
+        (source_stretches place_in placed_mark width (placed_boots l source items)) }
 {}

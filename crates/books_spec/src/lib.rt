@@ -14,6 +14,7 @@ pub mod generation_rows;
 pub mod laws;
 mod ledger_view;
 mod limits;
+pub mod parting_laws;
 mod reading;
 pub mod rows;
 mod sample_place;

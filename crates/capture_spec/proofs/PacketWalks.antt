@@ -2,8 +2,8 @@
 use Rattle.std.proofs.Common.{◌≡◌, ℕ, zero, suc, ◌+◌, ◌<◌, ◌≤◌, nat_lt, if◌then◌else◌, List, [], ◌∷◌, length, take, drop, Ok, Err, refl, ap, subst, ◌∙◌, arith, length-drop}
 use Rattle.std.proofs.lemmas.Bool.{cond_both, ltb-false}
 use Rattle.capture_spec.specs.declared.byte_order.ByteOrder.{ByteOrder}
-use Rattle.capture_spec.specs.declared.pcap_kind.PcapKind.{PcapKind}
-use Rattle.capture_spec.specs.declared.pcap_kind.PcapKind.TheVariants.{Magic, Version, Link, Long, Cut}
+use Rattle.wire_spec.specs.declared.input_kind.InputKind.{InputKind}
+use Rattle.wire_spec.specs.declared.input_kind.InputKind.TheVariants.{Long, Cut}
 use Rattle.capture_spec.specs.PcapFiles.{Packet, Front, Stops, Holds, EndsWithin, IsTooLong, Walks, most_captured, captured_at, arrival_at, front_of_bytes, front_of_packet, front_of, packets_length}
 use Rattle.capture_spec.specs.PcapReading.{PcapOutcome, with_packet, read_front, packets_reading}
 
@@ -61,22 +61,17 @@ end_stops order (b ∷ bs) e = absurd (some_none b bs e)
 -- ---- what is read
 
 -- the front where a packet is faulty in this way, and where the fault stands in it
-abbrev pub IsFaultOf : PcapKind → Front → Type 0
+abbrev pub IsFaultOf : InputKind → Front → Type 0
 IsFaultOf Cut front = front ≡ EndsWithin
 IsFaultOf Long front = front ≡ IsTooLong
-IsFaultOf Magic front = ⊥
-IsFaultOf Version front = ⊥
-IsFaultOf Link front = ⊥
+IsFaultOf _ front = ⊥
 
-abbrev pub within : PcapKind → ℕ
+abbrev pub within : InputKind → ℕ
 within Long = 8
-within Cut = 0
-within Magic = 0
-within Version = 0
-within Link = 0
+within _ = 0
 
 -- behind whole packets one is faulty; the first begins at the offset
-pub record PacketsBreak (order : ByteOrder) (offset : ℕ) (bytes : List ℕ) (at : ℕ) (kind : PcapKind) : Type 0 where
+pub record PacketsBreak (order : ByteOrder) (offset : ℕ) (bytes : List ℕ) (at : ℕ) (kind : InputKind) : Type 0 where
   pub packets : List Packet
   pub rest : List ℕ
   pub before : Walks order bytes packets rest
@@ -136,18 +131,16 @@ packets_back (p ∷ packets) (suc most) order offset bytes fewer (more, e, w) =
     ∙ ap (with_packet p) (packets_back packets most order (offset + (16 + length p.bytes)) more
     (omega (arith, fewer, holds_less order bytes p more e)) w)
 
-front_back : (offset at : ℕ) (kind : PcapKind) (next : ℕ → List ℕ → PcapOutcome) (front : Front) → IsFaultOf kind front
+front_back : (offset at : ℕ) (kind : InputKind) (next : ℕ → List ℕ → PcapOutcome) (front : Front) → IsFaultOf kind front
     → at ≡ offset + within kind → read_front offset next front ≡ Err (at, kind)
 front_back offset at Cut next front e place =
     ap (read_front offset next) e ∙ ap (λ k. Err (k, Cut)) (omega (arith, place))
 front_back offset at Long next front e place =
     ap (read_front offset next) e ∙ ap (λ k. Err (k, Long)) (omega (arith, place))
-front_back offset at Magic next front e place = absurd e
-front_back offset at Version next front e place = absurd e
-front_back offset at Link next front e place = absurd e
+front_back offset at _ next front e place = absurd e
 
 break_back : (packets : List Packet) (most : ℕ) (order : ByteOrder) (offset : ℕ) (bytes rest : List ℕ) (at : ℕ)
-    (kind : PcapKind) → length bytes < most → Walks order bytes packets rest → IsFaultOf kind (front_of order rest)
+    (kind : InputKind) → length bytes < most → Walks order bytes packets rest → IsFaultOf kind (front_of order rest)
     → at ≡ offset + packets_length packets + within kind → packets_reading most order offset bytes ≡ Err (at, kind)
 unfolding packets_reading
 break_back packets zero order offset bytes rest at kind fewer w e place = absurd (no_less (length bytes) fewer)

@@ -4,8 +4,8 @@ use Rattle.std.proofs.lemmas.Bool.{cond_both, cond-true, cond-false, false_from_
 use Rattle.std.proofs.lemmas.Slice.Eq.{bytes_eq-Decides}
 use Rattle.capture_spec.specs.declared.byte_order.ByteOrder.{ByteOrder}
 use Rattle.capture_spec.specs.declared.byte_order.ByteOrder.TheVariants.{HighFirst, LowFirst}
-use Rattle.capture_spec.specs.declared.pcap_kind.PcapKind.{PcapKind}
-use Rattle.capture_spec.specs.declared.pcap_kind.PcapKind.TheVariants.{Magic, Version, Link, Long, Cut}
+use Rattle.wire_spec.specs.declared.input_kind.InputKind.{InputKind}
+use Rattle.wire_spec.specs.declared.input_kind.InputKind.TheVariants.{Magic, Version, Link, Long, Cut}
 use Rattle.capture_spec.specs.PcapFiles.{Packet, PcapFault, HasHeader, HasOneReading, four_at, magic, version, ethernet, packets_length}
 use Rattle.capture_spec.specs.PcapReading.{PcapOutcome, IsPcapOutcome, packets_reading, reading_in, pcap_reading}
 use Rattle.capture_spec.proofs.PacketWalks.{AreRead, PacketsBreak, packets_show, read_back}
@@ -26,7 +26,7 @@ is_other xs ys e = false_from_ne_true _ (λ t. e (same xs ys t))
 
 -- ---- what is read is so
 
-fault_behind : (order : ByteOrder) (bytes : List ℕ) (at : ℕ) (kind : PcapKind) → HasHeader order bytes
+fault_behind : (order : ByteOrder) (bytes : List ℕ) (at : ℕ) (kind : InputKind) → HasHeader order bytes
     → PacketsBreak order 24 (drop 24 bytes) at kind → PcapFault bytes at kind
 fault_behind order bytes at Cut header h = record {
   order = order;
@@ -50,9 +50,7 @@ fault_behind order bytes at Long header h = (
     place = refl;
   },
 )
-fault_behind order bytes at Magic header h = absurd h.ends
-fault_behind order bytes at Version header h = absurd h.ends
-fault_behind order bytes at Link header h = absurd h.ends
+fault_behind order bytes at _ header h = absurd h.ends
 
 outcome_behind : (order : ByteOrder) (bytes : List ℕ) (r : PcapOutcome) → HasHeader order bytes
     → AreRead order 24 (drop 24 bytes) r → IsPcapOutcome bytes r
@@ -108,7 +106,7 @@ read_behind order bytes r header h =
     ∙ cond-true _ _ _ (is_same (four_at 20 bytes) (ethernet order) header.link_is)
     ∙ read_back (suc (length bytes)) order 24 (drop 24 bytes) r (fewer bytes) h
 
-fault_back : (bytes : List ℕ) (at : ℕ) (kind : PcapKind) → PcapFault bytes at kind → pcap_reading bytes ≡ Err (at, kind)
+fault_back : (bytes : List ℕ) (at : ℕ) (kind : InputKind) → PcapFault bytes at kind → pcap_reading bytes ≡ Err (at, kind)
 unfolding pcap_reading reading_in
 fault_back bytes at Magic (is, high, low) =
     cond-false _ _ _ (is_other (four_at 0 bytes) (magic HighFirst) high)
@@ -135,6 +133,7 @@ fault_back bytes at Long (packet, place, h) =
       ends = h.front_is;
       place = omega (arith, place, h.place);
     })
+fault_back bytes at _ h = absurd h
 
 pub outcome_back : (bytes : List ℕ) (r : PcapOutcome) → IsPcapOutcome bytes r → pcap_reading bytes ≡ r
 outcome_back bytes (Ok packets) h = read_behind h.order bytes (Ok packets) h.header h.packets_are
@@ -142,13 +141,13 @@ outcome_back bytes (Err fault) h = fault_back bytes fault.0 fault.1 h
 
 -- ---- the laws
 
-apart : (packets : List Packet) (fault : ℕ × PcapKind) (r : PcapOutcome) → r ≡ Ok packets → r ≡ Err fault → ⊥
+apart : (packets : List Packet) (fault : ℕ × InputKind) (r : PcapOutcome) → r ≡ Ok packets → r ≡ Err fault → ⊥
 apart packets fault r x y = cc
 
 one_file : (xs ys : List Packet) (r : PcapOutcome) → r ≡ Ok xs → r ≡ Ok ys → ys ≡ xs
 one_file xs ys r x y = cc
 
-one_fault : (x y : ℕ × PcapKind) (r : PcapOutcome) → r ≡ Err x → r ≡ Err y → y ≡ x
+one_fault : (x y : ℕ × InputKind) (r : PcapOutcome) → r ≡ Err x → r ≡ Err y → y ≡ x
 one_fault x y r p q = cc
 
 one_outcome : (bytes : List ℕ) (r : PcapOutcome) → pcap_reading bytes ≡ r → IsPcapOutcome bytes r → HasOneReading bytes

@@ -1,3 +1,8 @@
+pub mod Items
+pub mod BrokenItems
+pub mod VersionedCaptures
+pub mod ItemReading
+pub mod VersionedRows
 pub mod Payloads
 pub mod PayloadRows
 pub mod PcapFiles

@@ -2,13 +2,9 @@
 -- 3.1; RFC 8200, section 3; RFC 768). Numbers are big-endian, and places count from the frame's first byte.
 use Rattle.std.specs.Prelude.{◌≡◌, ℕ, zero, suc, ◌+◌, ◌*◌, ◌/◌, ◌%◌, ◌≤◌, Bool, not, ◌||◌, ◌==◌, nat_lt, if◌then◌else◌, List, [], ◌∷◌, length, slice_index, slice_range, Option, Some, None, Result, Ok, Err}
 use Rattle.wire_spec.specs.Heads.{AgentAddress, ipv4, ipv6}
+use Rattle.capture_spec.specs.Items.{Sender}
 use Rattle.capture_spec.specs.declared.passed.Passed.{Passed}
 use Rattle.capture_spec.specs.declared.passed.Passed.TheVariants.{Short, NotIp, BadIp, Fragment, NotUdp, BadLen, Cut, Port}
-
--- who sent a datagram: an address, and a port of UDP
-pub record Sender : Type 0 where
-  pub address : AgentAddress
-  pub port : ℕ
 
 -- what a datagram carries, and who sent it
 pub record Payload : Type 0 where

@@ -6,8 +6,8 @@ use Rattle.std.specs.Int.{w32, from_be_bytes, from_le_bytes}
 use Rattle.wire_spec.specs.Exactly.{OneOfEither}
 use Rattle.capture_spec.specs.declared.byte_order.ByteOrder.{ByteOrder}
 use Rattle.capture_spec.specs.declared.byte_order.ByteOrder.TheVariants.{HighFirst, LowFirst}
-use Rattle.capture_spec.specs.declared.pcap_kind.PcapKind.{PcapKind}
-use Rattle.capture_spec.specs.declared.pcap_kind.PcapKind.TheVariants.{Magic, Version, Link, Long, Cut}
+use Rattle.wire_spec.specs.declared.input_kind.InputKind.{InputKind}
+use Rattle.wire_spec.specs.declared.input_kind.InputKind.TheVariants.{Magic, Version, Link, Long, Cut}
 
 -- ---- numbers
 
@@ -128,19 +128,20 @@ HasNoLink order bytes =
 
 -- Magic: the bytes begin with it in neither order. Version: they do, and 2 and 4 don't come next. Link: they do, and the
 -- link type isn't 1. Each is met also where the input ends before. Long: a captured length is above 262,144. Cut: the
--- input ends inside a packet.
-abbrev pub PcapFault : List ℕ → ℕ → PcapKind → Type 0
+-- input ends inside a packet. The other kinds aren't faults of a pcap file.
+abbrev pub PcapFault : List ℕ → ℕ → InputKind → Type 0
 PcapFault bytes offset Magic =
     (offset ≡ 0) × (four_at 0 bytes ≢ magic HighFirst) × (four_at 0 bytes ≢ magic LowFirst)
 PcapFault bytes offset Version = (offset ≡ 4) × (order : ByteOrder) × HasNoVersion order bytes
 PcapFault bytes offset Link = (offset ≡ 20) × (order : ByteOrder) × HasNoLink order bytes
 PcapFault bytes offset Long = (packet : ℕ) × (offset ≡ packet + 8) × StandsBehind bytes IsTooLong packet
 PcapFault bytes offset Cut = StandsBehind bytes EndsWithin offset
+PcapFault bytes offset _ = ⊥
 
 -- ---- what the laws say
 
 -- they have this fault, at this offset
-abbrev pub HasFault : List ℕ → ℕ × PcapKind → Type 0
+abbrev pub HasFault : List ℕ → ℕ × InputKind → Type 0
 HasFault bytes fault = PcapFault bytes fault.0 fault.1
 
 -- one list of packets and no fault, or one fault and no list of packets

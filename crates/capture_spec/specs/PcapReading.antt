@@ -2,13 +2,13 @@
 use Rattle.std.specs.Prelude.{ℕ, zero, suc, ◌+◌, if◌then◌else◌, List, [], ◌∷◌, length, drop, bytes_eq, Result, Ok, Err}
 use Rattle.capture_spec.specs.declared.byte_order.ByteOrder.{ByteOrder}
 use Rattle.capture_spec.specs.declared.byte_order.ByteOrder.TheVariants.{HighFirst, LowFirst}
-use Rattle.capture_spec.specs.declared.pcap_kind.PcapKind.{PcapKind}
-use Rattle.capture_spec.specs.declared.pcap_kind.PcapKind.TheVariants.{Magic, Version, Link, Long, Cut}
+use Rattle.wire_spec.specs.declared.input_kind.InputKind.{InputKind}
+use Rattle.wire_spec.specs.declared.input_kind.InputKind.TheVariants.{Magic, Version, Link, Long, Cut}
 use Rattle.capture_spec.specs.PcapFiles.{Packet, Front, Stops, Holds, EndsWithin, IsTooLong, PcapFile, PcapFault, four_at, magic, version, ethernet, front_of}
 
 -- the packets of a file, or a fault: its offset, and its kind
 abbrev pub PcapOutcome : Type 0
-PcapOutcome = Result (List Packet) (ℕ × PcapKind)
+PcapOutcome = Result (List Packet) (ℕ × InputKind)
 
 -- a packet before those that are read after it
 abbrev pub with_packet : Packet → PcapOutcome → PcapOutcome

@@ -1,7 +1,7 @@
 // The laws of pcap files. Each is a function with nothing to do, whose contract is the law.
 ghost use Rattle.std.specs.Prelude.{◌≡◌, ◌↔◌, ℕ, List, [], ◌∷◌, ◌++◌, take, Ok, Err};
-ghost use Rattle.capture_spec.specs.declared.pcap_kind.PcapKind.{PcapKind};
-ghost use Rattle.capture_spec.specs.declared.pcap_kind.PcapKind.TheVariants.{Magic, Version, Link, Long, Cut};
+ghost use Rattle.wire_spec.specs.declared.input_kind.InputKind.{InputKind};
+ghost use Rattle.wire_spec.specs.declared.input_kind.InputKind.TheVariants.{Magic, Version, Link, Long, Cut};
 ghost use Rattle.capture_spec.specs.PcapFiles.{Packet, PcapFile, PcapFault, HasOneReading};
 ghost use Rattle.capture_spec.specs.PcapReading.{pcap_reading};
 ghost use Rattle.capture_spec.specs.PayloadRows.{whole};
@@ -18,7 +18,7 @@ pub fn one_pcap_reading()
 pub fn pcap_reading_is_the_file()
     ensures packets { (bytes : List ℕ) (packets : List Packet)
         → (pcap_reading bytes ≡ Ok packets) ↔ PcapFile bytes packets }
-    ensures fault { (bytes : List ℕ) (offset : ℕ) (kind : PcapKind)
+    ensures fault { (bytes : List ℕ) (offset : ℕ) (kind : InputKind)
         → (pcap_reading bytes ≡ Err (offset, kind)) ↔ PcapFault bytes offset kind }
 {}
 

@@ -58,12 +58,12 @@ pub fn words_of_limits()
           boot_slack = 100;
         })) }
     ensures most { command_of (codes "replay" ∷ codes "--streams=4096" ∷ codes "--sources=65536"
-        ∷ codes "--datagram-width=1024" ∷ codes "--sample-width=1024" ∷ codes "--boot-slack=1073741824" ∷ [])
+        ∷ codes "--datagram-width=8192" ∷ codes "--sample-width=8192" ∷ codes "--boot-slack=1073741824" ∷ [])
         ≡ Some (Command.Replay (record {
           streams = 4096;
           sources = 65536;
-          datagram_width = 1024;
-          sample_width = 1024;
+          datagram_width = 8192;
+          sample_width = 8192;
           boot_slack = 1073741824;
         })) }
 
@@ -72,9 +72,9 @@ pub fn words_of_limits()
     ensures no_sources { command_of (codes "replay" ∷ codes "--sources=0" ∷ []) ≡ None }
     ensures many_sources { command_of (codes "replay" ∷ codes "--sources" ∷ codes "65537" ∷ []) ≡ None }
     ensures no_width { command_of (codes "replay" ∷ codes "--datagram-width=0" ∷ []) ≡ None }
-    ensures wide { command_of (codes "replay" ∷ codes "--datagram-width=1025" ∷ []) ≡ None }
+    ensures wide { command_of (codes "replay" ∷ codes "--datagram-width=8193" ∷ []) ≡ None }
     ensures no_sample_width { command_of (codes "replay" ∷ codes "--sample-width=0" ∷ []) ≡ None }
-    ensures wide_samples { command_of (codes "replay" ∷ codes "--sample-width=1025" ∷ []) ≡ None }
+    ensures wide_samples { command_of (codes "replay" ∷ codes "--sample-width=8193" ∷ []) ≡ None }
     ensures short_slack { command_of (codes "replay" ∷ codes "--boot-slack" ∷ codes "99" ∷ []) ≡ None }
     ensures long_slack { command_of (codes "replay" ∷ codes "--boot-slack=1073741825" ∷ []) ≡ None }
 

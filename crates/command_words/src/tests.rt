@@ -28,7 +28,7 @@ const ALL_LIMITS: Result<Command, WordsRefusal> = Ok(Command::Replay {
     limits: Limits {
         streams: 4_096,
         sources: 65_536,
-        datagram_width: 1_024,
+        datagram_width: 8_192,
         sample_width: 1,
         boot_slack: 1_073_741_824,
     },
@@ -60,7 +60,7 @@ fn words_have_their_readings(rt: HostRuntime) -> Result<(), Fail> {
                 "--boot-slack=1073741824",
                 "--sample-width",
                 "1",
-                "--datagram-width=1024",
+                "--datagram-width=8192",
                 "--sources",
                 "65536",
                 "--streams=4096",

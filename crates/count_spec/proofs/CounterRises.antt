@@ -2,12 +2,11 @@
 use Rattle.std.proofs.Common.{◌≡◌, ◌≢◌, ◌↔◌, ℕ, ◌+◌, ◌%◌, ◌<◌, ◌≤◌, Bool, true, false, cond, List, [], ◌∷◌, map, ℤ, ◌≤ℤ◌, ◌<ℤ◌, arith, refl, ap, sym}
 use Rattle.std.specs.Prelude.{int_lt}
 use Rattle.std.specs.Ordering.{int_eq}
-use Rattle.std.specs.Int.{int_max, int_min}
 use Rattle.std.proofs.lemmas.Int.{ints}
 use Rattle.count_spec.specs.Windows.{greatest, least, AreDistinct}
 use Rattle.count_spec.specs.Rise.{NumberedValue, numbers, value_at, value_at_greatest, value_at_least, rise, rise_step, AreSlow}
-use Rattle.count_spec.specs.CounterRise.{step_between, counter_step, counter_rise}
-use Rattle.count_spec.specs.TrueRise.{EachStep, AreMonotone, RiseByLess, shown_by}
+use Rattle.count_spec.specs.CounterRise.{step_between, counter_rise}
+use Rattle.count_spec.specs.TrueRise.{AreMonotone, RiseByLess, shown_by}
 use Rattle.count_spec.proofs.Rises.{value-greater, value-less}
 use Rattle.count_spec.proofs.Sets.{has-greatest, has-least, has-differs, least-at_most-greatest}
 use Rattle.count_spec.proofs.Integers.{int_eq-same}

@@ -11,3 +11,4 @@ pub mod Stretches
 pub mod Restarts
 pub mod Rises
 pub mod CounterRises
+pub mod TrueStretches

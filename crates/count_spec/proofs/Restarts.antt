@@ -1,11 +1,10 @@
 -- Where items of a stream belong.
-use Rattle.std.proofs.Common.{◌≡◌, ℕ, suc, ◌+◌, ◌-◌, ◌*◌, ◌<◌, ◌≤◌, inl, inr, Bool, true, false, cond, ◌||◌, List, [], ◌∷◌, length, ℤ, pos, ◌+ℤ◌, ◌-ℤ◌, ◌*ℤ◌, arith, refl, ap, ◌∙◌, sym}
+use Rattle.std.proofs.Common.{◌≡◌, ℕ, ◌+◌, ◌-◌, ◌*◌, ◌<◌, ◌≤◌, inl, inr, Bool, true, false, cond, ◌||◌, List, [], ◌∷◌, ℤ, pos, ◌+ℤ◌, ◌-ℤ◌, ◌*ℤ◌, arith, refl, ap, ◌∙◌, sym}
 use Rattle.std.specs.Prelude.{int_lt, unsigned_abs, nat_le, ◌↔◌}
 use Rattle.std.specs.Ordering.{int_eq}
-use Rattle.std.specs.List.{count_by, sum_by, list_all}
+use Rattle.std.specs.List.{count_by, sum_by}
 use Rattle.std.proofs.lemmas.Int.{ints}
-use Rattle.std.proofs.lemmas.Bool.{cases_Bool, false≢true, leb-true, leb-false, le-leb, or_cases}
-use Rattle.std.proofs.lemmas.List.Sums.{sum_by-cons}
+use Rattle.std.proofs.lemmas.Bool.{cases_Bool, leb-true, leb-false, le-leb, or_cases}
 use Rattle.count_spec.specs.Windows.{near, greatest, least, has, place, answer, counting, counted, is_newest}
 use Rattle.count_spec.specs.declared.entered.Place.TheVariants.{Newest, Inside, Least}
 use Rattle.count_spec.specs.declared.entered.Entered.{Entered}

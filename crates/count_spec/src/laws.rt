@@ -2,13 +2,14 @@
 
 ghost use Rattle.std.specs.Prelude.{◌≡◌, ◌↔◌, ℕ, ◌+◌, ◌-◌, ◌%◌, ◌*◌, ◌^◌, ◌<◌, ◌≤◌, ◌&&◌, Bool, true, false, cond, List, [], ◌∷◌, length, map, ℤ, pos, ◌+ℤ◌, ◌-ℤ◌, ◌*ℤ◌, ◌<ℤ◌, ◌≤ℤ◌, int_lt, unsigned_abs, nat_le};
 ghost use Rattle.std.specs.Int.{int_max};
-ghost use Rattle.std.specs.List.{count_by, sum_by, list_all};
+ghost use Rattle.std.specs.List.{count_by, sum_by, list_all, AllByRecursion};
 ghost use Rattle.count_spec.specs.Windows.{near, mark_of, greatest, least, has, AreDistinct, answer, counted, is_newest, repeat_count, late_count};
 ghost use Rattle.count_spec.specs.declared.entered.Place.{Place};
 ghost use Rattle.count_spec.specs.declared.entered.Place.TheVariants.{Only, Newest, Inside, Least};
 ghost use Rattle.count_spec.specs.declared.entered.Entered.TheVariants.{First};
 ghost use Rattle.count_spec.specs.Parts.{parts, between};
-ghost use Rattle.count_spec.specs.Stretches.{stretches, stale_among};
+ghost use Rattle.count_spec.specs.Stretches.{placed, stretches, with_stale, stale_among};
+ghost use Rattle.count_spec.specs.TrueStretches.{true_stretches, past_items, true_place};
 ghost use Rattle.count_spec.specs.declared.stretch_place.StretchPlace.{StretchPlace};
 ghost use Rattle.count_spec.specs.Boots.{Stamp, boot_mark, sequences, newest_boot_mark, is_near_multiple};
 ghost use Rattle.count_spec.specs.CounterRise.{counter_rise};
@@ -167,4 +168,13 @@ pub fn counter_rise_is_the_true_difference()
     ensures of_64_bits { (values : List NumberedValue) → AreDistinct (numbers values) → AreMonotone values
         → RiseByLess (2 ^ 64) values
         → counter_rise (2 ^ 64) (map (shown_by (2 ^ 64)) values) + value_at_least values ≡ value_at_greatest values }
+{}
+
+/// Stretches by the true indexes of items, counted from 1, are cut item by item: each belongs to the current stretch,
+/// begins the next, or is past.
+pub fn true_stretches_go_on<T>()
+    ensures stretches { (index : T → ℕ) (x : T) (before : List T) → AllByRecursion (λ y. 1 ≤ index y) (x ∷ before)
+        → true_stretches index (x ∷ before) ≡ placed (true_place index before x) x (true_stretches index before) }
+    ensures past { (index : T → ℕ) (x : T) (before : List T) →
+        past_items index (x ∷ before) ≡ with_stale (true_place index before x) x (past_items index before) }
 {}

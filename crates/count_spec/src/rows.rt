@@ -1,12 +1,14 @@
 //! Worked rows, computed by the check. Each list has the latest first.
 
-ghost use Rattle.std.specs.Prelude.{◌≡◌, ℕ, List, [], ◌∷◌, map, ℤ, pos, negsuc};
+ghost use Rattle.std.specs.Prelude.{◌≡◌, ℕ, ◌^◌, List, [], ◌∷◌, map, ℤ, pos, negsuc};
 ghost use Rattle.count_spec.specs.Windows.{answers};
 ghost use Rattle.count_spec.specs.declared.entered.Entered.TheVariants.{First, Repeat, Late};
 ghost use Rattle.count_spec.specs.declared.entered.Place.TheVariants.{Only, Newest, Inside, Least};
 ghost use Rattle.count_spec.specs.Rows.{parts_of_marks, figures, datagram, boots_of, stale_of, at_number};
 ghost use Rattle.count_spec.specs.Boots.{boot_mark};
 ghost use Rattle.count_spec.specs.Rise.{rise};
+ghost use Rattle.count_spec.specs.CounterRise.{counter_rise};
+ghost use Rattle.count_spec.specs.TrueStretches.{true_stretches, past_items};
 
 /// What a window answers to marks, from the first on: a first number, a repeat, or a number too late.
 pub fn answer_rows()
@@ -98,4 +100,20 @@ pub fn boot_rows()
     ensures measured_from_its_first_receipt { boots_of (datagram 109031 90030 8 ∷ datagram 108020 90020 7
         ∷ datagram 104010 90010 7 ∷ datagram 100000 90000 5 ∷ [])
         ≡ (8 ∷ []) ∷ (7 ∷ 7 ∷ 5 ∷ []) ∷ [] }
+{}
+
+/// The rise of a counter with its own modulus.
+pub fn counter_rise_rows()
+    ensures of_64_bits { counter_rise (2 ^ 64) (at_number 2 16 ∷ at_number 1 18446744073709551600 ∷ []) ≡ 32 }
+    ensures of_64_bits_above_32 { counter_rise (2 ^ 64) (at_number 2 4294967306 ∷ at_number 1 5 ∷ []) ≡ 4294967301 }
+    ensures of_32_bits { counter_rise (2 ^ 32) (at_number 2 3 ∷ at_number 1 4294967294 ∷ []) ≡ 5 }
+    ensures out_of_order { counter_rise (2 ^ 64) (at_number 1 18446744073709551600 ∷ at_number 2 16 ∷ []) ≡ 32 }
+{}
+
+/// Stretches by the index that each item shows.
+pub fn true_stretch_rows()
+    ensures each_in_turn { true_stretches (λ (i : ℕ). i) (3 ∷ 2 ∷ 2 ∷ 1 ∷ []) ≡ (3 ∷ []) ∷ (2 ∷ 2 ∷ []) ∷ (1 ∷ []) ∷ [] }
+    ensures past { true_stretches (λ (i : ℕ). i) (2 ∷ 3 ∷ 1 ∷ 2 ∷ 1 ∷ []) ≡ (3 ∷ []) ∷ (2 ∷ []) ∷ (1 ∷ []) ∷ [] }
+    ensures past_ones { past_items (λ (i : ℕ). i) (2 ∷ 3 ∷ 1 ∷ 2 ∷ 1 ∷ []) ≡ 2 ∷ 1 ∷ [] }
+    ensures one_is_missing { true_stretches (λ (i : ℕ). i) (3 ∷ 1 ∷ []) ≡ (3 ∷ []) ∷ (1 ∷ []) ∷ [] }
 {}

@@ -201,3 +201,11 @@ nested_end whole f tail h (front, parts) =
     let ends : StandsIn (body_of f) (body_of rest) =
     (front, [], parts ∙ ap (λ (t : List ℕ). front ++ t) (sym (append-nil tail)), place) in
     stands_range whole rest (within (from_start whole) (body_of f) (body_of rest) (range_stands whole f h) ends)
+
+-- a part between a front and a back stands behind the front
+pub part_stands : (whole front part back named : List ℕ) (n : ℕ) → whole ≡ front ++ (part ++ back) → part ≡ named
+    → length front ≡ n → IsRange whole n named
+part_stands whole front part back named n parts same len =
+    let f : FrameView = record { format = 0; body = part; at = n } in
+    let P : List ℕ → Type 0 = IsRange whole n in
+    subst P same (all_ranges whole (f ∷ []) ((front, back, parts, omega (arith, len)), tt)).0

@@ -3,6 +3,7 @@
 #![tactic(auto)]
 
 mod address;
+mod address_spelling;
 mod check;
 mod format;
 mod frames;
@@ -16,6 +17,7 @@ mod source;
 mod value_laws;
 
 pub use address::Address;
+pub use address_spelling::{AddressParts, address_parts};
 pub use check::{AnyBody, BodyCheck};
 pub use format::{Format, Frame};
 pub use frames::Frames;

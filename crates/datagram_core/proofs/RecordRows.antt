@@ -1,9 +1,11 @@
 -- What the tables of the records that are read have for each format.
-use Rattle.std.proofs.Common.{◌≡◌, ◌≢◌, ℕ, ne_eqb, Result, Ok, Err, refl, sym, subst, ap, ◌∙◌}
+use Rattle.std.proofs.Common.{◌≡◌, ℕ, ne_eqb, Result, Ok, Err, refl, sym, subst, ap, ◌∙◌}
 use Rattle.wire_spec.specs.declared.pad.Pad.{Pad}
 use Rattle.wire_spec.specs.declared.fault.Fault.{Fault}
-use Rattle.wire_spec.specs.Shapes.{Shape, Table, Tree, known, other}
+use Rattle.wire_spec.specs.Shapes.{Shape, Table, empty, row, Tree, known, other}
+use Rattle.wire_spec.specs.Spells.{IsAbsent}
 use Rattle.wire_spec.specs.Tables as tables
+use Rattle.wire_spec.specs.Tables.{flow_table, counter_table}
 use Rattle.wire_spec.specs.Fails.{Remaining}
 use Rattle.wire_spec.specs.Reading.{◌>>=◌, reading, inside_at}
 use Rattle.xdr_words.specs.Readers.{Gives}
@@ -26,7 +28,7 @@ as_inside n (Err f) = refl
 pub row_read : {X : Type 0} {T : Table} {n : ℕ} {s : Shape} (content : X → Content) (p : Pad) (k : ℕ) (b : Remaining)
     (r : Result X Fault) → IsRow T n s → k ≡ n → Gives content (λ f. f) r (record_reading p s b)
     → Gives (λ x. as_known n (content x)) (λ f. f) r (inside_at p T k b)
-row_read {X = X} {T = T} {n = n} {s = s} content p k b r row e h =
+row_read {X = X} {T = T} {n = n} {s = s} content p k b r this e h =
     let P : ℕ → Type 0 = λ k. Gives (λ x. as_known n (content x)) (λ f. f) r (inside_at p T k b) in
     subst P (sym e) (at_row r h)
   where
@@ -34,7 +36,7 @@ row_read {X = X} {T = T} {n = n} {s = s} content p k b r row e h =
     step q = q >>= λ x. Ok (as_known n x)
 
     same : inside_at p T n b ≡ step (record_reading p s b)
-    same = row.inside p b ∙ as_inside n (reading p s b)
+    same = this.inside p b ∙ as_inside n (reading p s b)
 
     at_row : (r : Result X Fault) → Gives content (λ f. f) r (record_reading p s b)
         → Gives (λ x. as_known n (content x)) (λ f. f) r (inside_at p T n b)
@@ -71,21 +73,21 @@ pub gateway_row : IsRow flow_records_read 1003 tables.extended_gateway
 unfolding flow_records_read
 gateway_row = record { inside = λ p b. refl }
 
--- any other format
-pub no_flow_row : (p : Pad) (k : ℕ) (b : Remaining)
-    → k ≢ 1 → k ≢ 2 → k ≢ 3 → k ≢ 4 → k ≢ 1001 → k ≢ 1002 → k ≢ 1003
-    → inside_at p flow_records_read k b ≡ Ok (other k b.bytes)
+pub user_row : IsRow flow_records_read 1004 tables.extended_user
 unfolding flow_records_read
-no_flow_row p k b one two three four switch router gateway =
-    rw (
-      ne_eqb k 1 one,
-      ne_eqb k 2 two,
-      ne_eqb k 3 three,
-      ne_eqb k 4 four,
-      ne_eqb k 1001 switch,
-      ne_eqb k 1002 router,
-      ne_eqb k 1003 gateway,
-    ) refl
+user_row = record { inside = λ p b. refl }
+
+pub url_row : IsRow flow_records_read 1005 tables.extended_url
+unfolding flow_records_read
+url_row = record { inside = λ p b. refl }
+
+pub mpls_row : IsRow flow_records_read 1006 tables.extended_mpls
+unfolding flow_records_read
+mpls_row = record { inside = λ p b. refl }
+
+pub nat_row : IsRow flow_records_read 1007 tables.extended_nat
+unfolding flow_records_read
+nat_row = record { inside = λ p b. refl }
 
 -- ---- counter records
 
@@ -101,8 +103,22 @@ pub vlan_row : IsRow counter_records_read 5 tables.vlan_counters
 unfolding counter_records_read
 vlan_row = record { inside = λ p b. refl }
 
--- any other format
-pub no_counters_row : (p : Pad) (k : ℕ) (b : Remaining) → k ≢ 1 → k ≢ 2 → k ≢ 5
+pub processor_row : IsRow counter_records_read 1001 tables.processor_counters
+unfolding counter_records_read
+processor_row = record { inside = λ p b. refl }
+
+-- ---- any other format
+
+absent_row : (p : Pad) (T : Table) (k : ℕ) (b : Remaining) → IsAbsent k T → inside_at p T k b ≡ Ok (other k b.bytes)
+absent_row p empty k b none = refl
+absent_row p (row j s T) k b none = rw (ne_eqb k j none.0) (absent_row p T k b none.1)
+
+pub no_flow_row : (p : Pad) (k : ℕ) (b : Remaining) → IsAbsent k flow_table
+    → inside_at p flow_records_read k b ≡ Ok (other k b.bytes)
+unfolding flow_records_read
+no_flow_row p k b none = absent_row p flow_table k b none
+
+pub no_counters_row : (p : Pad) (k : ℕ) (b : Remaining) → IsAbsent k counter_table
     → inside_at p counter_records_read k b ≡ Ok (other k b.bytes)
 unfolding counter_records_read
-no_counters_row p k b one two five = rw (ne_eqb k 1 one, ne_eqb k 2 two, ne_eqb k 5 five) refl
+no_counters_row p k b none = absent_row p counter_table k b none

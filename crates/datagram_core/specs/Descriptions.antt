@@ -7,6 +7,7 @@ use Rattle.rec_headers.specs.Contents as headers
 use Rattle.rec_extended.specs.Contents as switches
 use Rattle.rec_extended.specs.RouteContents as routes
 use Rattle.rec_counters.specs.Contents as counters
+use Rattle.rec_more.specs.Contents as more
 use Rattle.datagram_core.specs.declared.records.Record.{Record}
 use Rattle.datagram_core.specs.declared.records.Record.TheVariants.{
   RawHeader,
@@ -16,9 +17,14 @@ use Rattle.datagram_core.specs.declared.records.Record.TheVariants.{
   Switch,
   Router,
   Gateway,
+  User,
+  Url,
+  Mpls,
+  Nat,
   IfCounters,
   EthernetCounters,
   VlanCounters,
+  Processor,
   Other,
 }
 use Rattle.datagram_core.specs.declared.records.RecordKind.{RecordKind}
@@ -38,9 +44,14 @@ described (Ipv6 r) = Read Flow 4 (headers.ipv6_content r)
 described (Switch r) = Read Flow 1001 (switches.switch_content r)
 described (Router r) = Read Flow 1002 (routes.router_content r)
 described (Gateway r) = Read Flow 1003 (routes.gateway_content r)
+described (User r) = Read Flow 1004 (more.user_content r)
+described (Url r) = Read Flow 1005 (more.url_content r)
+described (Mpls r) = Read Flow 1006 (more.mpls_content r)
+described (Nat r) = Read Flow 1007 (more.nat_content r)
 described (IfCounters r) = Read Counters 1 (counters.interface_content r)
 described (EthernetCounters r) = Read Counters 2 (counters.ethernet_content r)
 described (VlanCounters r) = Read Counters 5 (counters.vlan_content r)
+described (Processor r) = Read Counters 1001 (more.processor_content r)
 described (Other frame) = Kept frame
 
 -- the word of its format

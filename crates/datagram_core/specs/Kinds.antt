@@ -1,5 +1,7 @@
 -- Which formats are read by their fields, and which records the samples of each kind have.
 use Rattle.std.specs.Prelude.{◌≡◌, ◌≢◌, ℕ}
+use Rattle.wire_spec.specs.Spells.{IsAbsent}
+use Rattle.wire_spec.specs.Tables.{flow_table, counter_table}
 use Rattle.data_format.specs.declared.heads.Form.{Form}
 use Rattle.data_format.specs.declared.heads.Form.TheVariants.{Compact, Expanded}
 use Rattle.data_format.specs.Views.{IsFormat, format_word}
@@ -21,8 +23,8 @@ counters_format Expanded = 4
 
 -- the format is none of those that are read by their fields
 abbrev pub IsUnread : RecordKind → ℕ → Type 0
-IsUnread kinds.Flow k = (k ≢ 1) × (k ≢ 2) × (k ≢ 3) × (k ≢ 4) × (k ≢ 1001) × (k ≢ 1002) × (k ≢ 1003)
-IsUnread kinds.Counters k = (k ≢ 1) × (k ≢ 2) × (k ≢ 5)
+IsUnread kinds.Flow k = IsAbsent k flow_table
+IsUnread kinds.Counters k = IsAbsent k counter_table
 IsUnread kinds.Unknown k = Unit {0}
 
 -- the format is none of the samples that are read by their fields

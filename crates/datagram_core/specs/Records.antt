@@ -7,10 +7,11 @@ use Rattle.data_format.specs.Records.{Content}
 use Rattle.data_format.specs.Trees.{frame_tree}
 use Rattle.data_format.specs.Views.{IsFormat, FrameView, frame_view, format_word}
 use Rattle.rec_extended.specs.RouteContents as routes
+use Rattle.rec_more.specs.Contents as more
 use Rattle.datagram_core.specs.Descriptions.{Description, Read, Kept, described, tail_in}
 use Rattle.datagram_core.specs.Tables.{flow_records_read, counter_records_read}
 use Rattle.datagram_core.specs.declared.records.Record.{Record}
-use Rattle.datagram_core.specs.declared.records.Record.TheVariants.{RawHeader, Gateway, Other}
+use Rattle.datagram_core.specs.declared.records.Record.TheVariants.{RawHeader, Gateway, User, Url, Mpls, Other}
 use Rattle.datagram_core.specs.declared.records.RecordKind.{RecordKind}
 use Rattle.datagram_core.specs.declared.records.RecordKind.TheVariants as kinds
 use Rattle.datagram_core.specs.declared.sample.Sample.{Sample}
@@ -53,11 +54,14 @@ tree_in (Kept frame) = other (format_word frame.format) frame.body.now
 abbrev pub record_tree : Record → Tree
 record_tree r = tree_in (described r)
 
--- The header of a packet stands behind four words, the lists of a gateway within the body, and the tail is its rest; a
--- record whose format isn't read has the whole body.
+-- The header of a packet stands behind four words, the names, texts and lists of other records where their definitions
+-- say, and the tail is the rest of the body; a record whose format isn't read has the whole body.
 abbrev pub HasSlices : List ℕ → Record → Type 0
 HasSlices body (RawHeader r) = IsRange body 16 r.header.now × EndsWith body r.tail.now
 HasSlices body (Gateway r) = EndsWith body r.tail.now × routes.HasLists body r
+HasSlices body (User r) = EndsWith body r.tail.now × more.HasNames body r
+HasSlices body (Url r) = EndsWith body r.tail.now × more.HasTexts body r
+HasSlices body (Mpls r) = EndsWith body r.tail.now × more.HasStacks body r
 HasSlices body (Other frame) = frame.body.now ≡ body
 HasSlices body r = EndsWith body (tail_in (described r))
 

@@ -10,12 +10,13 @@ use Rattle.data_format.specs.declared.heads.CountersHead.{CountersHead}
 use Rattle.data_format.specs.Samples.{flow_trees, counters_trees}
 use Rattle.data_format.specs.Views.{IsFormat}
 use Rattle.rec_extended.specs.RouteContents.{path_of, communities_of}
+use Rattle.rec_more.specs.Contents.{in_bytes, out_bytes}
 use Rattle.as_paths.specs.WordLists.{word_trees}
 use Rattle.as_paths.specs.Paths.{segment_trees}
 use Rattle.datagram_core.specs.Descriptions.{Description, Read, Kept, described, format_in, body_in, tail_in}
 use Rattle.datagram_core.specs.Kinds.{flow_format, counters_format}
 use Rattle.datagram_core.specs.declared.records.Record.{Record}
-use Rattle.datagram_core.specs.declared.records.Record.TheVariants.{RawHeader, Gateway}
+use Rattle.datagram_core.specs.declared.records.Record.TheVariants.{RawHeader, Gateway, User, Url, Mpls}
 use Rattle.datagram_core.specs.declared.records.RecordKind.{RecordKind}
 use Rattle.datagram_core.specs.declared.records.RecordKind.TheVariants as kinds
 
@@ -79,6 +80,9 @@ abbrev pub SlicesFit : Record → Type 0
 SlicesFit (RawHeader r) = (length r.header.now ≤ 65535) × (length r.tail.now ≤ 65535)
 SlicesFit (Gateway r) = (length (spell_all (segment_trees (path_of r))) ≤ 65535)
     × (length (spell_all (word_trees (communities_of r))) ≤ 65535) × (length r.tail.now ≤ 65535)
+SlicesFit (User r) = (length r.src_user.now ≤ 65535) × (length r.dst_user.now ≤ 65535) × (length r.tail.now ≤ 65535)
+SlicesFit (Url r) = (length r.url.now ≤ 65535) × (length r.host.now ≤ 65535) × (length r.tail.now ≤ 65535)
+SlicesFit (Mpls r) = (length (in_bytes r) ≤ 65535) × (length (out_bytes r) ≤ 65535) × (length r.tail.now ≤ 65535)
 SlicesFit r = length (tail_in (described r)) ≤ 65535
 
 -- the format of a record that isn't read is that of a word

@@ -14,14 +14,24 @@ use data_format::{Fault, Frame, RecordBody};
 use rec_counters::{EthernetCounters, IfCounters, VlanCounters};
 use rec_extended::{GatewayRec, RouterRec, SwitchRec};
 use rec_headers::{EthernetRec, Ipv4Rec, Ipv6Rec, RawHeader};
+use rec_more::{MplsRec, NatRec, ProcessorCounters, UrlRec, UserRec};
 use wire_spec::Pad;
+
+/// A record is read by its check, which has no use for the value.
+pub(crate) const BY_CHECK: usize = 0;
+/// A record is read to be given.
+pub(crate) const TO_GIVE: usize = 1;
 
 impl<'a> Record<'a> {
     /// The record of this kind in a frame, by its format; or the first fault in its body. The place behind the body is
-    /// below 2^32.
-    // A check has no use for the value, which then isn't made.
+    /// below 2^32. `FOR` says what it is read for, and changes nothing that is read.
+    // So the check has an instance of its own, which is inlined there and makes no value.
     #[inline(always)]
-    pub(crate) fn read(kind: RecordKind, frame: Frame<'a>, pad: Pad) -> Result<Record<'a>, Fault>
+    pub(crate) fn read<const FOR: usize>(
+        kind: RecordKind,
+        frame: Frame<'a>,
+        pad: Pad,
+    ) -> Result<Record<'a>, Fault>
         requires { frame.at + length frame.body.now < 2 ^ 32 }
         ensures exact { Gives record_tree (λ f. f) result
             (inside_at pad (table_of kind) (format_word frame.entry.format) (body_of (frame_view frame.entry))) }
@@ -29,8 +39,8 @@ impl<'a> Record<'a> {
         ensures kind { IsFormat frame.entry.format → IfOk result (λ r. HasKind kind r) }
     {
         match kind {
-            RecordKind::Flow => read_flow(frame, pad),
-            RecordKind::Counters => read_counters(frame, pad),
+            RecordKind::Flow => read_flow::<FOR>(frame, pad),
+            RecordKind::Counters => read_counters::<FOR>(frame, pad),
             RecordKind::Unknown => Ok(Record::Other(frame)),
         }
     }
@@ -38,7 +48,7 @@ impl<'a> Record<'a> {
 
 // The flow record in a frame, or the first fault in its body.
 #[inline(always)]
-fn read_flow<'a>(frame: Frame<'a>, pad: Pad) -> Result<Record<'a>, Fault>
+fn read_flow<'a, const FOR: usize>(frame: Frame<'a>, pad: Pad) -> Result<Record<'a>, Fault>
     requires { frame.at + length frame.body.now < 2 ^ 32 }
     ensures exact { Gives record_tree (λ f. f) result
         (inside_at pad flow_records_read (format_word frame.entry.format) (body_of (frame_view frame.entry))) }
@@ -56,13 +66,17 @@ fn read_flow<'a>(frame: Frame<'a>, pad: Pad) -> Result<Record<'a>, Fault>
         1001 => Ok(Record::Switch(SwitchRec::read(frame, pad)?)),
         1002 => Ok(Record::Router(RouterRec::read(frame, pad)?)),
         1003 => Ok(Record::Gateway(GatewayRec::read(frame, pad)?)),
+        1004 => Ok(Record::User(UserRec::read(frame, pad)?)),
+        1005 => Ok(Record::Url(UrlRec::read(frame, pad)?)),
+        1006 => Ok(Record::Mpls(MplsRec::read(frame, pad)?)),
+        1007 => Ok(Record::Nat(NatRec::read(frame, pad)?)),
         _ => Ok(Record::Other(frame)),
     }
 }
 
 // The counter record in a frame, or the first fault in its body.
 #[inline(always)]
-fn read_counters<'a>(frame: Frame<'a>, pad: Pad) -> Result<Record<'a>, Fault>
+fn read_counters<'a, const FOR: usize>(frame: Frame<'a>, pad: Pad) -> Result<Record<'a>, Fault>
     requires { frame.at + length frame.body.now < 2 ^ 32 }
     ensures exact { Gives record_tree (λ f. f) result
         (inside_at pad counter_records_read (format_word frame.entry.format) (body_of (frame_view frame.entry))) }
@@ -76,6 +90,7 @@ fn read_counters<'a>(frame: Frame<'a>, pad: Pad) -> Result<Record<'a>, Fault>
         1 => Ok(Record::IfCounters(IfCounters::read(frame, pad)?)),
         2 => Ok(Record::EthernetCounters(EthernetCounters::read(frame, pad)?)),
         5 => Ok(Record::VlanCounters(VlanCounters::read(frame, pad)?)),
+        1001 => Ok(Record::Processor(ProcessorCounters::read(frame, pad)?)),
         _ => Ok(Record::Other(frame)),
     }
 }

@@ -23,9 +23,14 @@ macro_rules! on_record {
             Record::Switch($found) => { let $number = 1001; $read }
             Record::Router($found) => { let $number = 1002; let _ = address_length(&$found.nexthop); $read }
             Record::Gateway($found) => { let $number = 1003; let _ = address_length(&$found.nexthop); $read }
+            Record::User($found) => { let $number = 1004; $read }
+            Record::Url($found) => { let $number = 1005; $read }
+            Record::Mpls($found) => { let $number = 1006; let _ = address_length(&$found.nexthop); $read }
+            Record::Nat($found) => { let $number = 1007; let _ = address_length(&$found.src) + address_length(&$found.dst); $read }
             Record::IfCounters($found) => { let $number = 1; $read }
             Record::EthernetCounters($found) => { let $number = 2; $read }
             Record::VlanCounters($found) => { let $number = 5; $read }
+            Record::Processor($found) => { let $number = 1001; $read }
             Record::Other($frame) => $kept,
         }
     };

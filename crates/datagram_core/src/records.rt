@@ -5,10 +5,12 @@ ghost use Rattle.data_format.specs.Views.{FrameView, IsFormat, frame_view};
 ghost use Rattle.datagram_core.specs.Records.{IsRecordOf, kind_by, table_of};
 ghost use Rattle.datagram_core.specs.Kinds.{HasKind};
 
+use crate::record::{BY_CHECK, TO_GIVE};
 use data_format::{BodyCheck, Fault, Frame, Frames};
 use rec_counters::{EthernetCounters, IfCounters, VlanCounters};
 use rec_extended::{GatewayRec, RouterRec, SwitchRec};
 use rec_headers::{EthernetRec, Ipv4Rec, Ipv6Rec, RawHeader};
+use rec_more::{MplsRec, NatRec, ProcessorCounters, UrlRec, UserRec};
 use std::marker::Model;
 use wire_spec::Pad;
 
@@ -27,7 +29,7 @@ impl BodyCheck for RecordKind {
     ghost test = { λ kind p f. table_test p (table_of kind) f };
 
     fn check(&self, frame: Frame<'_>, pad: Pad) -> Result<(), Fault> {
-        Record::read(*self, frame, pad)?;
+        Record::read::<BY_CHECK>(*self, frame, pad)?;
         Ok(())
     }
 }
@@ -49,12 +51,22 @@ pub enum Record<'a> {
     Router(RouterRec<'a>),
     /// The packet's BGP route, flow record format 1003 of the standard.
     Gateway(GatewayRec<'a>),
+    /// The packet's users, flow record format 1004 of the standard.
+    User(UserRec<'a>),
+    /// The URL that the packet is about, flow record format 1005 of the standard.
+    Url(UrlRec<'a>),
+    /// The packet's MPLS label stacks, flow record format 1006 of the standard.
+    Mpls(MplsRec<'a>),
+    /// The packet's translated addresses, flow record format 1007 of the standard.
+    Nat(NatRec<'a>),
     /// The counters of an interface, counter record format 1 of the standard.
     IfCounters(IfCounters<'a>),
     /// The counters of an Ethernet interface, counter record format 2 of the standard.
     EthernetCounters(EthernetCounters<'a>),
     /// The counters of a VLAN, counter record format 5 of the standard.
     VlanCounters(VlanCounters<'a>),
+    /// The load of a processor, counter record format 1001 of the standard.
+    Processor(ProcessorCounters<'a>),
     /// A record of any other format of its kind, as its frame.
     Other(Frame<'a>),
 }
@@ -124,7 +136,7 @@ impl<'a> Records<'a> {
     {
         let kind = self.kind();
         let frame = self.next_frame()?;
-        match Record::read(kind, frame, Pad::Any) {
+        match Record::read::<TO_GIVE>(kind, frame, Pad::Any) {
             Ok(found) => Some(found),
             Err(_) => unreachable!(),
         }

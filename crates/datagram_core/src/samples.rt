@@ -10,7 +10,6 @@ ghost use Rattle.datagram_core.specs.Kinds.{IsUnreadOther};
 use crate::{Sample, SampleHead};
 use data_format::{Frame, Frames};
 use std::marker::Model;
-use wire_spec::Pad;
 
 /// The samples of a datagram that are still to be given, in their order. Contracts see the list of their frames.
 #[derive(Drop)]
@@ -76,10 +75,7 @@ impl<'a> Samples<'a> {
         ensures unread { IfSome result (λ s. IsUnreadOther s) }
     {
         let frame = self.next_frame()?;
-        match Sample::read(frame, Pad::Any) {
-            Ok(found) => Some(found),
-            Err(_) => unreachable!(),
-        }
+        Some(Sample::again(frame))
     }
 
     /// The head of the first one that is left, which is then passed with its records; `None` exactly where none is left.

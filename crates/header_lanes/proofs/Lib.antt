@@ -2,3 +2,8 @@ pub mod Fronts
 pub mod Slots
 pub mod Told
 pub mod OfKinds
+pub mod KindsOf
+pub mod Flags
+pub mod Numbers
+pub mod Gathered
+pub mod Outlines

@@ -1,6 +1,6 @@
 -- The headers held, as they are put into the places of a batch.
-use Rattle.std.proofs.Common.{◌≡◌, ℕ, suc, ◌+◌, ◌-◌, ◌<◌, ◌≤◌, List, [], ◌∷◌, ◌++◌, sym, ap, ap₂, ◌∙◌, arith, map, min, length, take, set, replicate, get_or}
-use Rattle.std.proofs.lemmas.List.{map-set, length-map, take_more, length-take-le, append_assoc, take-take}
+use Rattle.std.proofs.Common.{◌≡◌, ℕ, suc, ◌+◌, ◌-◌, ◌<◌, ◌≤◌, List, [], ◌∷◌, ◌++◌, sym, ap, ap₂, ◌∙◌, arith, map, length, take, set, replicate, get_or}
+use Rattle.std.proofs.lemmas.List.{map-set, length-map, take_more, length-take-le, append_assoc}
 use Rattle.std.proofs.Math.Seq.{take-suc-set, set-append_seam, take-append_seam}
 use Rattle.header_lanes.specs.Facts.{facts, facts_in}
 
@@ -26,13 +26,10 @@ one_written ys k most blank y d inside room is =
     ∙ ap (λ l. l ++ rest) (sym (take_more ys k d inside))
 
 -- a header is what stands in front of the bytes that it was copied over
-pub stored : (protocol : ℕ) (new front header rest : List ℕ) → new ≡ front → front ≡ take 128 header → length front ≤ 128
-    → facts protocol (take (min (length front) 128) (new ++ rest)) ≡ facts protocol header
-stored protocol new front header rest same is few =
-    let whole : min (length front) 128 ≡ length front = omega (arith, few) in
-    ap₂ (λ n l. facts protocol (take n (l ++ rest))) whole same
-    ∙ ap (facts protocol) (take-append_seam front rest ∙ is)
-    ∙ ap (facts_in protocol) (take-take 128 128 header (omega arith))
+pub stored : (protocol : ℕ) (new front header rest : List ℕ) → new ≡ front → front ≡ take 128 header
+    → facts_in protocol (take (length front) (new ++ rest)) ≡ facts protocol header
+stored protocol new front header rest same is =
+    ap (λ l. facts_in protocol (take (length front) (l ++ rest))) same ∙ ap (facts_in protocol) (take-append_seam front rest ∙ is)
 
 -- as many are held as are counted
 pub all_held : {A B : Type 0} (f : A → B) (xs : List A) (held : ℕ) → held ≤ length xs → length (take held (map f xs)) ≡ held

@@ -3,6 +3,7 @@ pub mod Internet
 pub mod Ethernet
 pub mod Facts
 pub mod Rows
-pub mod Batches
+pub mod Slots
 pub mod Places
 pub mod Kinds
+pub mod KindsOf

@@ -3,44 +3,15 @@ ghost use Rattle.std.specs.Prelude.{◌≡◌, ◌↔◌, ◌+◌, ◌-◌, ◌<
 ghost use Rattle.header_lanes.specs.declared.header.Kind.TheVariants.{Unscanned};
 ghost use Rattle.header_lanes.specs.Numbers.{bare};
 ghost use Rattle.header_lanes.specs.Facts.{facts};
-ghost use Rattle.header_lanes.specs.Batches.{owed};
 
+use crate::columns::outline_of;
 use crate::header::HeaderFacts;
-use crate::scanner::{front, scan_one};
+use crate::slot::Slot;
 use std::marker::Model;
 
 /// Sixteen headers are held.
 #[derive(Debug, Clone, Copy, PartialEq, Eq)]
 pub struct BatchFull;
-
-// One of the places: a header protocol, and the header's first bytes.
-#[derive(Debug, Clone, Copy)]
-struct Slot {
-    protocol: u32,
-    length: usize,
-    bytes: [u8; 128],
-}
-
-impl Slot {
-    fn of(protocol: u32, header: &[u8]) -> Slot
-        ensures { owed result ≡ facts protocol header.now }
-    {
-        let header = front(header);
-        let mut bytes = [0; 128];
-        bytes[..header.len()].copy_from_slice(header);
-        Slot {
-            protocol,
-            length: header.len(),
-            bytes,
-        }
-    }
-
-    fn facts(&self) -> HeaderFacts
-        ensures { result ≡ owed self.now }
-    {
-        scan_one(self.protocol, &self.bytes[..self.length.min(128)])
-    }
-}
 
 /// At most sixteen headers, and the facts that are owed for them, in the order in which they came.
 #[derive(Debug, Drop)]
@@ -52,7 +23,7 @@ pub struct Batch {
 impl Model for Batch {
     ghost use Rattle.std.specs.Prelude.{◌≡◌, ◌≤◌, List, length, map, take};
     ghost use Rattle.header_lanes.specs.declared.header.HeaderFacts.{HeaderFacts};
-    ghost use Rattle.header_lanes.specs.Batches.{owed};
+    ghost use Rattle.header_lanes.specs.Slots.{owed};
 
     ghost Value = { List HeaderFacts };
 
@@ -105,9 +76,15 @@ impl Batch {
     pub fn scan(&self, facts: &mut [HeaderFacts; 16])
         ensures { facts.new ≡ self.now ++ replicate (16 - length self.now) (bare Unscanned) }
     {
+        let told = outline_of(&self.slots);
         *facts = [HeaderFacts::none(); 16];
         for k in 0..self.held {
-            facts[k] = self.slots[k].facts();
+            facts[k] = self.slots[k].facts(
+                told.paths[k],
+                told.bases[k],
+                told.vlans[k],
+                told.types[k],
+            );
         }
     }
 }

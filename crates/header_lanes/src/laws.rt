@@ -1,6 +1,7 @@
 ghost use Rattle.std.specs.Prelude.{◌≡◌, ◌≢◌, ℕ, ◌≤◌, List, take};
 ghost use Rattle.header_lanes.specs.Facts.{facts, facts_in};
 ghost use Rattle.header_lanes.specs.Kinds.{HasFactsOf};
+ghost use Rattle.header_lanes.specs.KindsOf.{kind_in};
 ghost use Rattle.header_lanes.specs.Places.{AreThere, ip_place};
 ghost use Rattle.header_lanes.specs.Rows.{tagged_header};
 
@@ -21,8 +22,14 @@ pub fn what_is_told_stands_there()
         AreThere (ip_place protocol h) h (facts protocol header) }
 {}
 
-/// Each header is of one kind, and the kind says which facts there are: those of an IP header exactly with `Ipv4` and
-/// `Ipv6`, and no type with a length or an undefined type.
+/// Which headers are of which kind: each header is of exactly one, by its protocol, by the type of its frame, and by the
+/// length and the first byte of the IP header that should follow.
+pub fn each_header_has_its_kind()
+    ensures { (protocol : ℕ) (header : List ℕ) → (facts protocol header).kind ≡ kind_in protocol (take 128 header) }
+{}
+
+/// The kind says which facts there are: those of an IP header with `Ipv4` and `Ipv6` alone, no type with a length or an
+/// undefined type, and no VLAN and no type where nothing was read.
 pub fn each_kind_has_its_facts()
     ensures { (protocol : ℕ) (header : List ℕ) →
         let f = facts protocol header in

@@ -2,8 +2,8 @@
 use Rattle.std.proofs.Common.{◌≡◌, ℕ, ◌<◌, List, length, drop, Option, Some, Ok, Err, refl, subst, arith}
 use Rattle.capture_spec.specs.declared.byte_order.ByteOrder.{ByteOrder}
 use Rattle.capture_spec.specs.PcapFiles.{HasHeader}
-use Rattle.pcap_file.specs.declared.reading.PcapRefusal.{PcapRefusal}
-use Rattle.pcap_file.specs.declared.reading.PcapRefusal.TheVariants.{ReadFault, BadInput, Spent}
+use Rattle.sflow_io.specs.declared.capture.ReadRefusal.{ReadRefusal}
+use Rattle.sflow_io.specs.declared.capture.ReadRefusal.TheVariants.{ReadFault, BadInput, Spent}
 use Rattle.pcap_file.specs.PcapAnswers.{Answer, AnswersBehind, AnswersStart, AnswersWithin, HasNoHeader, ReadsHeader, behind_header, stage_after}
 use Rattle.pcap_file.specs.declared.reading.PcapStage.{PcapStage}
 use Rattle.pcap_file.specs.declared.reading.PcapStage.TheVariants.{Ended}
@@ -20,7 +20,7 @@ starts_with_packet order bytes room left answer header h = record {
   refuses = λ none. absurd (none order header);
 }
 
-pub starts_with_refusal : (bytes room : List ℕ) (mid left : Option (List ℕ)) (e : PcapRefusal)
+pub starts_with_refusal : (bytes room : List ℕ) (mid left : Option (List ℕ)) (e : ReadRefusal)
     → ReadsHeader bytes mid (Err e) → AnswersStart bytes room left (Ended (Err e)) (Err e)
 starts_with_refusal bytes room mid left (BadInput at kind) h =
     record { goes_on = λ o has. absurd (h.0 o has); refuses = λ none. h.1 }

@@ -4,10 +4,10 @@ use Rattle.std.proofs.lemmas.Bool.{cond_both, both_ways}
 use Rattle.std.proofs.lemmas.Slice.Eq.{bytes_eq-Decides}
 use Rattle.capture_spec.specs.declared.byte_order.ByteOrder.{ByteOrder}
 use Rattle.capture_spec.specs.declared.byte_order.ByteOrder.TheVariants.{HighFirst, LowFirst}
-use Rattle.capture_spec.specs.declared.pcap_kind.PcapKind.TheVariants.{Magic, Version, Link}
+use Rattle.wire_spec.specs.declared.input_kind.InputKind.TheVariants.{Magic, Version, Link}
 use Rattle.capture_spec.specs.PcapFiles.{HasHeader, PcapFault, four_at, magic, version, ethernet}
-use Rattle.pcap_file.specs.declared.reading.PcapRefusal.{PcapRefusal}
-use Rattle.pcap_file.specs.declared.reading.PcapRefusal.TheVariants.{ReadFault, BadInput, Spent}
+use Rattle.sflow_io.specs.declared.capture.ReadRefusal.{ReadRefusal}
+use Rattle.sflow_io.specs.declared.capture.ReadRefusal.TheVariants.{ReadFault, BadInput, Spent}
 use Rattle.pcap_file.specs.PcapAnswers.{HasNoHeader, ReadsHeader, header_in, header_reading}
 use Rattle.sflow_io.specs.Seen.{Seen, Fills}
 use Rattle.sflow_io.proofs.Filled.{full_room, front_read}
@@ -28,22 +28,22 @@ one_order HighFirst LowFirst bytes e f =
 one_order LowFirst HighFirst bytes e f =
     let first : 0xd4 ≡ 0xa1 = ap (λ l. get_or l 0 0) (sym e ∙ f) in absurd (omega (arith, first))
 
-no_magic : (bytes : List ℕ) → four_at 0 bytes ≢ magic HighFirst → four_at 0 bytes ≢ magic LowFirst → HasNoHeader bytes
+pub no_magic : (bytes : List ℕ) → four_at 0 bytes ≢ magic HighFirst → four_at 0 bytes ≢ magic LowFirst → HasNoHeader bytes
 no_magic bytes high low HighFirst h = high h.magic_is
 no_magic bytes high low LowFirst h = low h.magic_is
 
-no_version : (order : ByteOrder) (bytes : List ℕ) → four_at 0 bytes ≡ magic order → four_at 4 bytes ≢ version order
+pub no_version : (order : ByteOrder) (bytes : List ℕ) → four_at 0 bytes ≡ magic order → four_at 4 bytes ≢ version order
     → HasNoHeader bytes
 no_version order bytes m none p h =
     none (subst (λ o. four_at 4 bytes ≡ version o) (one_order p order _ h.magic_is m) h.version_is)
 
-no_link : (order : ByteOrder) (bytes : List ℕ) → four_at 0 bytes ≡ magic order → four_at 20 bytes ≢ ethernet order
+pub no_link : (order : ByteOrder) (bytes : List ℕ) → four_at 0 bytes ≡ magic order → four_at 20 bytes ≢ ethernet order
     → HasNoHeader bytes
 no_link order bytes m none p h =
     none (subst (λ o. four_at 20 bytes ≡ ethernet o) (one_order p order _ h.magic_is m) h.link_is)
 
 -- what the reading of a header says
-abbrev pub SaysHeader : List ℕ → Result ByteOrder PcapRefusal → Type 0
+abbrev pub SaysHeader : List ℕ → Result ByteOrder ReadRefusal → Type 0
 SaysHeader bytes (Ok order) = HasHeader order bytes
 SaysHeader bytes (Err (BadInput at kind)) = HasNoHeader bytes × PcapFault bytes at kind
 SaysHeader bytes (Err ReadFault) = ⊥
@@ -52,8 +52,8 @@ SaysHeader bytes (Err Spent) = ⊥
 in_says : (order : ByteOrder) (bytes : List ℕ) → four_at 0 bytes ≡ magic order → SaysHeader bytes (header_in order bytes)
 unfolding header_in
 in_says order bytes m =
-    let no_link_there : Result ByteOrder PcapRefusal = Err (BadInput 20 Link) in
-    let linked : Result ByteOrder PcapRefusal =
+    let no_link_there : Result ByteOrder ReadRefusal = Err (BadInput 20 Link) in
+    let linked : Result ByteOrder ReadRefusal =
     if bytes_eq (four_at 20 bytes) (ethernet order) then Ok order else no_link_there in
     cond_both (bytes_eq (four_at 4 bytes) (version order)) linked (Err (BadInput 4 Version)) (SaysHeader bytes)
     (λ v. cond_both (bytes_eq (four_at 20 bytes) (ethernet order)) (Ok order) no_link_there (SaysHeader bytes)
@@ -64,8 +64,8 @@ in_says order bytes m =
 pub reading_says : (bytes : List ℕ) → SaysHeader bytes (header_reading bytes)
 unfolding header_reading
 reading_says bytes =
-    let none : Result ByteOrder PcapRefusal = Err (BadInput 0 Magic) in
-    let low : Result ByteOrder PcapRefusal =
+    let none : Result ByteOrder ReadRefusal = Err (BadInput 0 Magic) in
+    let low : Result ByteOrder ReadRefusal =
     if bytes_eq (four_at 0 bytes) (magic LowFirst) then header_in LowFirst bytes else none in
     cond_both (bytes_eq (four_at 0 bytes) (magic HighFirst)) (header_in HighFirst bytes) low (SaysHeader bytes)
     (λ h. in_says HighFirst bytes (same _ _ h))
@@ -95,7 +95,7 @@ header_whole order bytes h =
 
 -- ---- what was read of the input
 
-to_reads : (bytes : List ℕ) (left : Option (List ℕ)) (r : Result ByteOrder PcapRefusal) → SaysHeader bytes r
+to_reads : (bytes : List ℕ) (left : Option (List ℕ)) (r : Result ByteOrder ReadRefusal) → SaysHeader bytes r
     → (24 ≤ length bytes → left ≡ Some (drop 24 bytes)) → ReadsHeader bytes left r
 to_reads bytes left (Ok order) h goes_on = (h, goes_on (header_whole order bytes h))
 to_reads bytes left (Err (BadInput at kind)) h goes_on = h
@@ -114,7 +114,7 @@ module _ (count : ℕ) (bytes room : List ℕ) (old new : Seen) (long : length r
       (omega (arith, long, whole, ap length front, length-take-le 24 bytes whole, length-take-le count room f.within)) in
       h.left_is ∙ ap (λ n. Some (drop n bytes)) long
 
-  pub header_told : (r : Result ByteOrder PcapRefusal) → r ≡ header_reading (take count room)
+  pub header_told : (r : Result ByteOrder ReadRefusal) → r ≡ header_reading (take count room)
       → ReadsHeader bytes new.told r
   header_told r e =
       let is : header_reading bytes ≡ r = sym (e ∙ ap header_reading (sym front) ∙ front_says bytes) in

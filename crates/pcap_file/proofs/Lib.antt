@@ -2,3 +2,4 @@ pub mod PacketFronts
 pub mod Headers
 pub mod Begins
 pub mod PacketFaults
+pub mod PcapSteps

@@ -1,3 +1,4 @@
 pub mod Taken
 pub mod PcapAnswers
 pub mod PcapFaults
+pub mod PcapSteps

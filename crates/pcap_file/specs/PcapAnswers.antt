@@ -3,19 +3,18 @@ use Rattle.std.specs.Prelude.{◌≡◌, ◌≢◌, ⊤, ℕ, ◌+◌, ◌*◌, 
 use Rattle.std.specs.Io.KnownBytes.{IsAtEnd}
 use Rattle.capture_spec.specs.declared.byte_order.ByteOrder.{ByteOrder}
 use Rattle.capture_spec.specs.declared.byte_order.ByteOrder.TheVariants.{HighFirst, LowFirst}
-use Rattle.capture_spec.specs.declared.pcap_kind.PcapKind.{PcapKind}
-use Rattle.capture_spec.specs.declared.pcap_kind.PcapKind.TheVariants as kind
+use Rattle.wire_spec.specs.declared.input_kind.InputKind.{InputKind}
+use Rattle.wire_spec.specs.declared.input_kind.InputKind.TheVariants as kind
 use Rattle.capture_spec.specs.PcapFiles.{Front, Stops, Holds, EndsWithin, IsTooLong, HasHeader, PcapFault, front_of, four_at, magic, version, ethernet}
-use Rattle.sflow_io.specs.Seen.{Seen, next_count}
 use Rattle.pcap_file.specs.declared.reading.PcapNext.{PcapNext}
 use Rattle.pcap_file.specs.declared.reading.PcapNext.TheVariants as next
-use Rattle.pcap_file.specs.declared.reading.PcapRefusal.{PcapRefusal}
-use Rattle.pcap_file.specs.declared.reading.PcapRefusal.TheVariants as refusal
+use Rattle.sflow_io.specs.declared.capture.ReadRefusal.{ReadRefusal}
+use Rattle.sflow_io.specs.declared.capture.ReadRefusal.TheVariants as refusal
 use Rattle.pcap_file.specs.declared.reading.PcapStage.{PcapStage}
 use Rattle.pcap_file.specs.declared.reading.PcapStage.TheVariants as stage
 
 abbrev pub Answer : Type 0
-Answer = Result PcapNext PcapRefusal
+Answer = Result PcapNext ReadRefusal
 
 -- a reader: where it stands, and the bytes that it has read ahead of what it gave
 pub record ReaderState : Type 0 where
@@ -29,13 +28,13 @@ IsFresh reader = reader ≡ record { stage = stage.Start; held = [] }
 -- ---- the header
 
 -- what a header of this order says
-unfoldable pub header_in : ByteOrder → List ℕ → Result ByteOrder PcapRefusal
+unfoldable pub header_in : ByteOrder → List ℕ → Result ByteOrder ReadRefusal
 header_in order bytes =
     if bytes_eq (four_at 4 bytes) (version order) then
     (if bytes_eq (four_at 20 bytes) (ethernet order) then Ok order else Err (refusal.BadInput 20 kind.Link))
     else Err (refusal.BadInput 4 kind.Version)
 
-unfoldable pub header_reading : List ℕ → Result ByteOrder PcapRefusal
+unfoldable pub header_reading : List ℕ → Result ByteOrder ReadRefusal
 header_reading bytes =
     if bytes_eq (four_at 0 bytes) (magic HighFirst) then header_in HighFirst bytes
     else if bytes_eq (four_at 0 bytes) (magic LowFirst) then header_in LowFirst bytes
@@ -46,7 +45,7 @@ abbrev pub HasNoHeader : List ℕ → Type 0
 HasNoHeader bytes = (order : ByteOrder) → ¬ (HasHeader order bytes)
 
 -- the header stands there and the rest is left, or else the fault
-abbrev pub ReadsHeader : List ℕ → Option (List ℕ) → Result ByteOrder PcapRefusal → Type 0
+abbrev pub ReadsHeader : List ℕ → Option (List ℕ) → Result ByteOrder ReadRefusal → Type 0
 ReadsHeader bytes left (Ok order) = HasHeader order bytes × (left ≡ Some (drop 24 bytes))
 ReadsHeader bytes left (Err (refusal.BadInput at kind)) = HasNoHeader bytes × PcapFault bytes at kind
 ReadsHeader bytes left (Err refusal.ReadFault) = ⊤
@@ -62,12 +61,10 @@ pub record GivesPacket (front : Front) (room : List ℕ) (left : Option (List �
   pub left_is : left ≡ Some rest
 
 -- the fault where this front stands at this offset
-abbrev pub FaultsAt : ℕ → Front → ℕ → PcapKind → Type 0
+abbrev pub FaultsAt : ℕ → Front → ℕ → InputKind → Type 0
 FaultsAt offset front at kind.Cut = (front ≡ EndsWithin) × (at ≡ offset)
 FaultsAt offset front at kind.Long = (front ≡ IsTooLong) × (at ≡ offset + 8)
-FaultsAt offset front at kind.Magic = ⊥
-FaultsAt offset front at kind.Version = ⊥
-FaultsAt offset front at kind.Link = ⊥
+FaultsAt offset front at _ = ⊥
 
 abbrev pub AnswersFront : ℕ → Front → List ℕ → Option (List ℕ) → Answer → Type 0
 AnswersFront offset front room left (Ok (next.Packet at len)) = GivesPacket front room left at len
@@ -163,11 +160,6 @@ abbrev pub EndsSource : Answer → Option (List ℕ) → Type 0
 EndsSource (Ok (next.Packet at len)) left = ⊤
 EndsSource (Ok next.End) left = IsAtEnd left
 EndsSource (Err e) left = ⊤
-
--- at a read fault one call of the source failed, and at any other answer none
-pub record HasReadCause {T : Type 0} (old new : Seen) (answer : Result T PcapRefusal) : Type 0 where
-  pub failed : answer ≡ Err refusal.ReadFault → new.faults ≡ next_count old.faults
-  pub kept : answer ≢ Err refusal.ReadFault → new.faults ≡ old.faults
 
 -- where a reader may stand: behind at most 2^48 packets of at most 262,160 bytes each
 abbrev pub IsPlaced : PcapStage → Type 0

@@ -1,12 +1,14 @@
 ghost use Rattle.std.specs.Prelude.{◌≡◌, ◌≢◌, ℕ, List, Some, Err, bytes_eq};
-ghost use Rattle.pcap_file.specs.declared.reading.PcapRefusal.TheVariants.{BadInput, ReadFault};
+ghost use Rattle.sflow_io.specs.declared.capture.ReadRefusal.TheVariants.{BadInput, ReadFault};
 ghost use Rattle.capture_spec.specs.PcapFiles.{four_at, version, ethernet};
-ghost use Rattle.sflow_io.specs.CaptureAnswers.{unread};
-ghost use Rattle.pcap_file.specs.PcapAnswers.{HasReadCause, ReadsHeader, header_in, header_reading};
+ghost use Rattle.sflow_io.specs.CaptureAnswers.{HasReadCause, unread};
+ghost use Rattle.sflow_io.specs.ReadFaults.{StopsWithin};
+ghost use Rattle.pcap_file.specs.PcapAnswers.{ReadsHeader, header_in, header_reading};
 
 use crate::read_ahead::ReadAhead;
-use crate::{PcapRefusal, Source};
-use capture_spec::{ByteOrder, PcapKind};
+use crate::{ReadRefusal, Source};
+use capture_spec::ByteOrder;
+use wire_spec::InputKind;
 
 // These four bytes stand at this place.
 fn stands_at(front: &[u8], at: usize, part: &[u8; 4]) -> bool
@@ -15,10 +17,10 @@ fn stands_at(front: &[u8], at: usize, part: &[u8; 4]) -> bool
     at <= front.len() && front[at..].starts_with(part)
 }
 
-fn refusal(at: u128, kind: PcapKind) -> PcapRefusal
+fn refusal(at: u128, kind: InputKind) -> ReadRefusal
     ensures { result ≡ BadInput at kind }
 {
-    PcapRefusal::BadInput { at, kind }
+    ReadRefusal::BadInput { at, kind }
 }
 
 // What a header of this order lacks.
@@ -28,24 +30,24 @@ fn check_header(
     order: ByteOrder,
     bytes: &[u8; 4],
     link: &[u8; 4],
-) -> Result<ByteOrder, PcapRefusal>
+) -> Result<ByteOrder, ReadRefusal>
     requires version_is { bytes.now ≡ version order }
     requires link_is { link.now ≡ ethernet order }
     ensures says { result ≡ header_in order front.now }
     ensures unread { result ≢ Err ReadFault }
 {
     if !stands_at(front, 4, bytes) {
-        return Err(refusal(4, PcapKind::Version));
+        return Err(refusal(4, InputKind::Version));
     }
     if !stands_at(front, 20, link) {
-        return Err(refusal(20, PcapKind::Link));
+        return Err(refusal(20, InputKind::Link));
     }
     Ok(order)
 }
 
 // What these first bytes of the input say.
 #[tactic(auto, unfolding(crate::specs::PcapAnswers::header_reading))]
-fn header_of(front: &[u8]) -> Result<ByteOrder, PcapRefusal>
+fn header_of(front: &[u8]) -> Result<ByteOrder, ReadRefusal>
     ensures says { result ≡ header_reading front.now }
     ensures unread { result ≢ Err ReadFault }
 {
@@ -55,21 +57,22 @@ fn header_of(front: &[u8]) -> Result<ByteOrder, PcapRefusal>
     if stands_at(front, 0, &[0xd4, 0xc3, 0xb2, 0xa1]) {
         return check_header(front, ByteOrder::LowFirst, &[2, 0, 4, 0], &[1, 0, 0, 0]);
     }
-    Err(refusal(0, PcapKind::Magic))
+    Err(refusal(0, InputKind::Magic))
 }
 
 // The header at the start of the input.
 pub(crate) fn read_header<S: Source>(
     ahead: &mut ReadAhead,
     source: &mut S,
-) -> Result<ByteOrder, PcapRefusal>
+) -> Result<ByteOrder, ReadRefusal>
     ensures told { (bytes : List ℕ) → unread ahead.old (S.seen source.old) ≡ Some bytes
         → ReadsHeader bytes (unread ahead.new (S.seen source.new)) result }
     ensures cause { HasReadCause (S.seen source.old) (S.seen source.new) result }
+    ensures stops { result ≡ Err ReadFault → StopsWithin (unread ahead.old (S.seen source.old)) (S.seen source.new).told 24 }
 {
     let mut room = [0u8; 24];
     let Ok(count) = ahead.read_most(source, &mut room) else {
-        return Err(PcapRefusal::ReadFault);
+        return Err(ReadRefusal::ReadFault);
     };
     header_of(&room[..count])
 }

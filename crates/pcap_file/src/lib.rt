@@ -8,11 +8,12 @@ mod pcap_reader;
 mod read_ahead;
 mod reading;
 
-pub use capture_spec::{ByteOrder, Passed, PcapKind};
+pub use capture_spec::{ByteOrder, Passed};
 pub use payload::{Payload, Sender, read_payload};
 pub use pcap_reader::PcapReader;
-pub use reading::{PcapNext, PcapRefusal, PcapStage};
-pub use sflow_io::{Memory, Source};
+pub use reading::{PcapNext, PcapStage};
+pub use sflow_io::{Memory, ReadRefusal, Source};
+pub use wire_spec::InputKind;
 
 #[cfg(test)]
 mod tests;

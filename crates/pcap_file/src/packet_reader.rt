@@ -1,15 +1,16 @@
 // A packet, read from its first byte on.
 ghost use Rattle.std.specs.Prelude.{◌≡◌, ◌+◌, ◌^◌, ◌<◌, ◌≤◌, ℕ, List, Some, Err, length, drop};
 ghost use Rattle.sflow_io.specs.ReadFaults.{StopsWithin};
-ghost use Rattle.pcap_file.specs.declared.reading.PcapRefusal.TheVariants.{ReadFault};
+ghost use Rattle.sflow_io.specs.declared.capture.ReadRefusal.TheVariants.{ReadFault};
 ghost use Rattle.pcap_file.specs.PcapFaults.{StopsInPacket};
 ghost use Rattle.capture_spec.specs.PcapFiles.{word_of, arrival_at, captured_at, front_of, front_of_bytes};
-ghost use Rattle.sflow_io.specs.CaptureAnswers.{unread};
-ghost use Rattle.pcap_file.specs.PcapAnswers.{AnswersFront, AnswersLast, EndsSource, HasReadCause, IsNoPacket, IsShortPacket};
+ghost use Rattle.sflow_io.specs.CaptureAnswers.{HasReadCause, unread};
+ghost use Rattle.pcap_file.specs.PcapAnswers.{AnswersFront, AnswersLast, EndsSource, IsNoPacket, IsShortPacket};
 
 use crate::read_ahead::ReadAhead;
-use crate::{PcapNext, PcapRefusal, Source};
-use capture_spec::{ByteOrder, PcapKind};
+use crate::{PcapNext, ReadRefusal, Source};
+use capture_spec::ByteOrder;
+use wire_spec::InputKind;
 
 /// The most bytes of a packet.
 const MOST: u32 = 262_144;
@@ -45,7 +46,7 @@ fn read_bytes<S: Source>(
     offset: u128,
     at: u64,
     len: usize,
-) -> Result<PcapNext, PcapRefusal>
+) -> Result<PcapNext, ReadRefusal>
     requires length { len ≤ 262144 }
     requires room { len ≤ length room.old }
     ensures told { (bytes : List ℕ) → unread ahead.old (S.seen source.old) ≡ Some bytes
@@ -56,12 +57,12 @@ fn read_bytes<S: Source>(
     ensures stops { result ≡ Err ReadFault → StopsWithin (unread ahead.old (S.seen source.old)) (S.seen source.new).told len }
 {
     let Ok(count) = ahead.read_most(source, &mut room[..len]) else {
-        return Err(PcapRefusal::ReadFault);
+        return Err(ReadRefusal::ReadFault);
     };
     if count < len {
-        return Err(PcapRefusal::BadInput {
+        return Err(ReadRefusal::BadInput {
             at: offset,
-            kind: PcapKind::Cut,
+            kind: InputKind::Cut,
         });
     }
     Ok(PcapNext::Packet { at, len })
@@ -74,7 +75,7 @@ pub(crate) fn read_packet<S: Source>(
     room: &mut [u8],
     order: ByteOrder,
     offset: u128,
-) -> Result<PcapNext, PcapRefusal>
+) -> Result<PcapNext, ReadRefusal>
     requires room { 262144 ≤ length room.old }
     requires offset { offset < 2 ^ 127 }
     ensures told { (bytes : List ℕ) → unread ahead.old (S.seen source.old) ≡ Some bytes
@@ -86,28 +87,28 @@ pub(crate) fn read_packet<S: Source>(
 {
     let mut head = [0u8; 16];
     let Ok(count) = ahead.read_most(source, &mut head) else {
-        return Err(PcapRefusal::ReadFault);
+        return Err(ReadRefusal::ReadFault);
     };
     if count == 0 {
         return Ok(PcapNext::End);
     }
     if count < 12 {
-        return Err(PcapRefusal::BadInput {
+        return Err(ReadRefusal::BadInput {
             at: offset,
-            kind: PcapKind::Cut,
+            kind: InputKind::Cut,
         });
     }
     let captured = captured_in(order, &head);
     if captured > MOST {
-        return Err(PcapRefusal::BadInput {
+        return Err(ReadRefusal::BadInput {
             at: offset + 8,
-            kind: PcapKind::Long,
+            kind: InputKind::Long,
         });
     }
     if count < 16 {
-        return Err(PcapRefusal::BadInput {
+        return Err(ReadRefusal::BadInput {
             at: offset,
-            kind: PcapKind::Cut,
+            kind: InputKind::Cut,
         });
     }
     let at = arrival_in(order, &head);
@@ -118,7 +119,7 @@ pub(crate) fn read_packet<S: Source>(
 pub(crate) fn read_end<S: Source>(
     ahead: &mut ReadAhead,
     source: &mut S,
-) -> Result<PcapNext, PcapRefusal>
+) -> Result<PcapNext, ReadRefusal>
     ensures told { (bytes : List ℕ) → unread ahead.old (S.seen source.old) ≡ Some bytes
         → AnswersLast bytes result }
     ensures none { IsNoPacket result }
@@ -129,7 +130,7 @@ pub(crate) fn read_end<S: Source>(
     let mut byte = [0u8; 1];
     match ahead.read_most(source, &mut byte) {
         Ok(0) => Ok(PcapNext::End),
-        Ok(_) => Err(PcapRefusal::Spent),
-        Err(_) => Err(PcapRefusal::ReadFault),
+        Ok(_) => Err(ReadRefusal::Spent),
+        Err(_) => Err(ReadRefusal::ReadFault),
     }
 }

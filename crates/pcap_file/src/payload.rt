@@ -1,4 +1,4 @@
-ghost use Rattle.std.specs.Prelude.{◌≡◌, ◌+◌, ◌*◌, ◌<◌, ◌≤◌, length, slice_range, IfSome};
+ghost use Rattle.std.specs.Prelude.{◌≡◌, ◌+◌, ◌*◌, ◌<◌, ◌≤◌, length, slice_range, IfOk, IfSome};
 ghost use Rattle.wire_spec.specs.Heads.{ipv4, ipv6};
 ghost use Rattle.data_format.specs.Addresses.{address_of};
 ghost use Rattle.capture_spec.specs.Payloads.{payload_of, pair, is_tag, type_place, payload_behind, typed_payload, ipv4_payload, ipv6_payload, udp_payload};
@@ -81,7 +81,8 @@ fn find_type(frame: &[u8]) -> Option<usize>
 #[tactic(auto, unfolding(capture_spec::specs::Payloads::udp_payload))]
 fn read_udp(frame: &[u8], address: Address, at: usize, end: usize) -> Result<Payload<'_>, Passed>
     requires { (at < 1000) × (end < 100000) }
-    ensures { outcome_of result ≡ udp_payload frame.now (address_of address) at end }
+    ensures outcome { outcome_of result ≡ udp_payload frame.now (address_of address) at end }
+    ensures short { IfOk result (λ payload. length payload.bytes.now ≤ 65527) }
 {
     if end < at + 8 {
         return Err(Passed::BadLen);
@@ -109,7 +110,8 @@ fn read_udp(frame: &[u8], address: Address, at: usize, end: usize) -> Result<Pay
 #[tactic(auto, unfolding(capture_spec::specs::Payloads::ipv4_payload))]
 fn read_ipv4(frame: &[u8], at: usize) -> Result<Payload<'_>, Passed>
     requires { at < 100 }
-    ensures { outcome_of result ≡ ipv4_payload frame.now at }
+    ensures outcome { outcome_of result ≡ ipv4_payload frame.now at }
+    ensures short { IfOk result (λ payload. length payload.bytes.now ≤ 65527) }
 {
     if frame.len() < at + 20 {
         return Err(Passed::Short);
@@ -132,7 +134,8 @@ fn read_ipv4(frame: &[u8], at: usize) -> Result<Payload<'_>, Passed>
 #[tactic(auto, unfolding(capture_spec::specs::Payloads::ipv6_payload))]
 fn read_ipv6(frame: &[u8], at: usize) -> Result<Payload<'_>, Passed>
     requires { at < 100 }
-    ensures { outcome_of result ≡ ipv6_payload frame.now at }
+    ensures outcome { outcome_of result ≡ ipv6_payload frame.now at }
+    ensures short { IfOk result (λ payload. length payload.bytes.now ≤ 65527) }
 {
     if frame.len() < at + 40 {
         return Err(Passed::Short);
@@ -151,7 +154,8 @@ fn read_ipv6(frame: &[u8], at: usize) -> Result<Payload<'_>, Passed>
 #[tactic(auto, unfolding(capture_spec::specs::Payloads::typed_payload))]
 fn read_typed(frame: &[u8], word: u16, at: usize) -> Result<Payload<'_>, Passed>
     requires { at < 100 }
-    ensures { outcome_of result ≡ typed_payload frame.now word at }
+    ensures outcome { outcome_of result ≡ typed_payload frame.now word at }
+    ensures short { IfOk result (λ payload. length payload.bytes.now ≤ 65527) }
 {
     match word {
         0x0800 => read_ipv4(frame, at),
@@ -168,7 +172,8 @@ fn read_typed(frame: &[u8], word: u16, at: usize) -> Result<Payload<'_>, Passed>
 /// tested.
 #[tactic(auto, unfolding(capture_spec::specs::Payloads::payload_of, capture_spec::specs::Payloads::payload_behind))]
 pub fn read_payload(frame: &[u8]) -> Result<Payload<'_>, Passed>
-    ensures { outcome_of result ≡ payload_of frame.now }
+    ensures outcome { outcome_of result ≡ payload_of frame.now }
+    ensures short { IfOk result (λ payload. length payload.bytes.now ≤ 65527) }
 {
     let Some(at) = find_type(frame) else {
         return Err(Passed::Short);

@@ -1,15 +1,18 @@
-ghost use Rattle.std.specs.Prelude.{◌≡◌, ◌≤◌, ℕ, List, Some, Err, length, IfOk};
+ghost use Rattle.std.specs.Prelude.{◌≡◌, ◌≤◌, [], ℕ, List, Some, Err, length, IfOk};
 ghost use Rattle.capture_spec.specs.declared.byte_order.ByteOrder.{ByteOrder};
-ghost use Rattle.pcap_file.specs.declared.reading.PcapRefusal.TheVariants.{ReadFault};
+ghost use Rattle.sflow_io.specs.declared.capture.ReadRefusal.TheVariants.{ReadFault};
+ghost use Rattle.capture_spec.specs.PcapFiles.{Packet};
 ghost use Rattle.pcap_file.specs.PcapFaults.{StopsInPacket};
+ghost use Rattle.pcap_file.specs.PcapSteps.{HasGiven, IsBehind, LeadsOn, with_answer};
+ghost use Rattle.sflow_io.specs.Seen.{Seen};
 ghost use Rattle.pcap_file.specs.declared.reading.PcapStage.TheVariants.{Within, Ended};
-ghost use Rattle.sflow_io.specs.CaptureAnswers.{unread};
-ghost use Rattle.pcap_file.specs.PcapAnswers.{Answer, Answers, AnswersWithin, EndsSource, HasEnded, HasReadCause, IsFresh, IsPlaced, IsShortPacket, IsStageAfter, KeepsLimits, ReaderState, stage_after};
+ghost use Rattle.sflow_io.specs.CaptureAnswers.{HasReadCause, unread};
+ghost use Rattle.pcap_file.specs.PcapAnswers.{Answer, Answers, AnswersWithin, EndsSource, HasEnded, IsFresh, IsPlaced, IsShortPacket, IsStageAfter, KeepsLimits, ReaderState, stage_after};
 
 use crate::header::read_header;
 use crate::packet_reader::{read_end, read_packet};
 use crate::read_ahead::ReadAhead;
-use crate::{PcapNext, PcapRefusal, PcapStage, Source};
+use crate::{PcapNext, PcapStage, ReadRefusal, Source};
 use capture_spec::ByteOrder;
 use sflow_io::Memory;
 use std::alloc::Global;
@@ -39,6 +42,10 @@ impl PcapReader {
     /// A reader before its first byte. It takes memory for the bytes that it reads ahead, and none later.
     pub fn open(alloc: Global) -> Result<PcapReader, Memory>
         ensures opened { IfOk result (λ reader. IsFresh reader) }
+
+        // It has given nothing of any bytes.
+        ensures begins { IfOk result (λ reader. (bytes : List ℕ) (source : Seen) → source.told ≡ Some bytes
+            → HasGiven bytes [] reader source) }
     {
         match ReadAhead::new(alloc) {
             Ok(ahead) => Ok(PcapReader {
@@ -61,7 +68,7 @@ impl PcapReader {
         &mut self,
         source: &mut S,
         room: &mut [u8],
-    ) -> Result<PcapNext, PcapRefusal>
+    ) -> Result<PcapNext, ReadRefusal>
         requires { 262144 ≤ length room.old }
 
         // The answer is that of the bytes that are left, whatever the pieces in which they come.
@@ -70,6 +77,7 @@ impl PcapReader {
         ensures stage { IsStageAfter self.old.stage self.new.stage result }
         ensures length { IsShortPacket result }
         ensures at_end { ¬ (HasEnded self.old.stage) → EndsSource result (S.seen source.new).told }
+        ensures leads_on { LeadsOn self.old.stage self.new.stage result }
 
         // The last answer comes again.
         ensures again { (last : Answer) → self.old.stage ≡ Ended last → result ≡ last }
@@ -81,6 +89,10 @@ impl PcapReader {
         // At a read fault behind whole packets none has left the source that wasn't given.
         ensures stops { (order : ByteOrder) (count offset : ℕ) → self.old.stage ≡ Within order count offset
             → result ≡ Err ReadFault → StopsInPacket order (unread self.old.held (S.seen source.old)) (S.seen source.new).told }
+
+        // What was given from the start of the input on stays what the reading of a file gives.
+        ensures given { (bytes : List ℕ) (packets : List Packet) → HasGiven bytes packets self.old (S.seen source.old)
+            → HasGiven bytes (with_answer packets room.new result) self.new (S.seen source.new) }
     {
         match self.stage {
             PcapStage::Start => match read_header(&mut self.ahead, source) {
@@ -108,7 +120,7 @@ impl PcapReader {
         order: ByteOrder,
         count: u64,
         offset: u128,
-    ) -> Result<PcapNext, PcapRefusal>
+    ) -> Result<PcapNext, ReadRefusal>
         requires room { 262144 ≤ length room.old }
         requires placed { IsPlaced (Within order count offset) }
         ensures told { (bytes : List ℕ) → unread self.old.held (S.seen source.old) ≡ Some bytes
@@ -119,6 +131,10 @@ impl PcapReader {
         ensures cause { HasReadCause (S.seen source.old) (S.seen source.new) result }
         ensures stops { result ≡ Err ReadFault
             → StopsInPacket order (unread self.old.held (S.seen source.old)) (S.seen source.new).told }
+        ensures leads_on { LeadsOn (Within order count offset) self.new.stage result }
+        ensures given { (bytes : List ℕ) (packets : List Packet)
+            → IsBehind order packets bytes count offset (unread self.old.held (S.seen source.old))
+            → HasGiven bytes (with_answer packets room.new result) self.new (S.seen source.new) }
     {
         let answer = read_within(&mut self.ahead, source, room, order, count, offset);
         self.stage = stage_behind(order, count, offset, answer);
@@ -134,7 +150,7 @@ fn read_within<S: Source>(
     order: ByteOrder,
     count: u64,
     offset: u128,
-) -> Result<PcapNext, PcapRefusal>
+) -> Result<PcapNext, ReadRefusal>
     requires room { 262144 ≤ length room.old }
     requires placed { IsPlaced (Within order count offset) }
     ensures told { (bytes : List ℕ) → unread ahead.old (S.seen source.old) ≡ Some bytes
@@ -157,11 +173,12 @@ fn stage_behind(
     order: ByteOrder,
     count: u64,
     offset: u128,
-    answer: Result<PcapNext, PcapRefusal>,
+    answer: Result<PcapNext, ReadRefusal>,
 ) -> PcapStage
     requires placed { IsPlaced (Within order count offset) }
     requires limits { KeepsLimits count answer }
     ensures after { result ≡ stage_after (Within order count offset) answer }
+    ensures leads_on { LeadsOn (Within order count offset) result answer }
     ensures placed { IsPlaced result }
 {
     let Ok(PcapNext::Packet { len, .. }) = answer else {

@@ -1,6 +1,7 @@
 // What the reader of a pcap file answers, and where it stands.
 
-use capture_spec::{ByteOrder, PcapKind};
+use capture_spec::ByteOrder;
+use sflow_io::ReadRefusal;
 
 /// What a reader of a pcap file gives.
 #[derive(Clone, Copy, Debug, PartialEq, Eq)]
@@ -10,17 +11,6 @@ pub enum PcapNext {
     Packet { at: u64, len: usize },
     /// The end of the file.
     End,
-}
-
-/// Why a reader gives nothing more.
-#[derive(Clone, Copy, Debug, PartialEq, Eq)]
-pub enum PcapRefusal {
-    /// A read of the source failed.
-    ReadFault,
-    /// The input is no classic pcap file: `at` is the offset of the fault, in bytes from the start of the input.
-    BadInput { at: u128, kind: PcapKind },
-    /// 2^48 packets were read, and the input goes on.
-    Spent,
 }
 
 /// Where a reader of a pcap file stands.
@@ -37,6 +27,6 @@ pub enum PcapStage {
     },
     /// It ended with this answer, `End` or a refusal, and gives it again and again.
     Ended {
-        answer: Result<PcapNext, PcapRefusal>,
+        answer: Result<PcapNext, ReadRefusal>,
     },
 }

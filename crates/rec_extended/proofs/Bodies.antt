@@ -1,15 +1,6 @@
 -- The bodies of routes, item by item.
-use Rattle.std.proofs.Common.{◌≡◌, ℕ, ◌%◌, List, [], ◌++◌, length, ap, ◌∙◌, append_assoc, arith}
+use Rattle.std.proofs.Common.{◌≡◌, ℕ, List, [], ◌++◌, ap, ◌∙◌, append_assoc}
 use Rattle.std.specs.Int.{w32, to_be_bytes}
-use Rattle.std.proofs.lemmas.List.{append-nil}
-use Rattle.wire_spec.specs.Padding.{padding_of}
-use Rattle.wire_spec.specs.Spelling.{padded}
-
--- whole words have no padding
-pub unpadded : (v : List ℕ) → length v % 4 ≡ 0 → padded v ≡ v
-unpadded v whole =
-    let none : padding_of (length v) ≡ 0 = omega (arith, whole) in
-    rw none (append-nil v)
 
 abbrev word_bytes : ℕ → List ℕ
 word_bytes n = to_be_bytes w32 n

@@ -1,5 +1,5 @@
 -- Where the lists of a gateway stand in the body that it was read from.
-use Rattle.std.proofs.Common.{◌≡◌, ℕ, List, [], ◌∷◌, ◌++◌, length, Result, Ok, Err, ap, subst, ◌∙◌, append_assoc, inl, inr, arith}
+use Rattle.std.proofs.Common.{◌≡◌, ℕ, List, [], ◌∷◌, ◌++◌, length, Result, Ok, Err, ap, ◌∙◌, append_assoc, inl, inr, arith}
 use Rattle.std.specs.Prelude.{IfOk}
 use Rattle.std.proofs.lemmas.List.{length-append}
 use Rattle.std.specs.Int.{w32, to_be_bytes}
@@ -13,12 +13,11 @@ use Rattle.wire_spec.specs.Heads.{address_tree}
 use Rattle.wire_spec.specs.Whole.{SpellsFront}
 use Rattle.wire_spec.proofs.Spellings.{spelled_length}
 use Rattle.data_format.specs.Addresses.{address_of}
-use Rattle.data_format.specs.Ranges.{IsRange}
-use Rattle.data_format.specs.Views.{FrameView}
-use Rattle.data_format.proofs.Ranges.{all_ranges}
+use Rattle.data_format.proofs.Ranges.{part_stands}
 use Rattle.as_paths.specs.declared.segment.Segment.{Segment}
 use Rattle.as_paths.specs.Paths.{kind_word, segment_tree, segment_trees}
 use Rattle.as_paths.specs.WordLists.{word_trees}
+use Rattle.as_paths.proofs.WordSpellings.{words_alike, numbers_alike}
 use Rattle.rec_extended.specs.declared.gateway.GatewayRec.{GatewayRec}
 use Rattle.rec_extended.specs.RouteContents.{
   gateway_content,
@@ -29,19 +28,7 @@ use Rattle.rec_extended.specs.RouteContents.{
   HasLists,
 }
 
--- ---- words have no padding, so their spelling is the one
-
-words_alike : (p : Pad) (ns a : List ℕ) → Each (Spells p word) (word_trees ns) a → a ≡ spell_all (word_trees ns)
-words_alike p [] a e = e
-words_alike p (n ∷ ns) a (x, y, one, more, parts) =
-    parts ∙ ap (λ (t : List ℕ). t ++ y) one.1
-    ∙ ap (λ (t : List ℕ). to_be_bytes w32 n ++ t) (words_alike p ns y more)
-
-numbers_alike : (p : Pad) (ns a : List ℕ) → Spells p (array word) (Tree.array (word_trees ns)) a
-    → a ≡ to_be_bytes w32 (count_of (word_trees ns)) ++ spell_all (word_trees ns)
-numbers_alike p ns a (x, y, one, more, parts) =
-    parts ∙ ap (λ (t : List ℕ). t ++ y) one.1
-    ∙ ap (λ (t : List ℕ). to_be_bytes w32 (count_of (word_trees ns)) ++ t) (words_alike p ns y more)
+-- ---- segments have no padding, so their spelling is the one
 
 segment_alike : (p : Pad) (s : Segment) (a : List ℕ) → Spells p path_segment (segment_tree s) a
     → a ≡ spell (segment_tree s)
@@ -63,13 +50,6 @@ segments_alike p (s ∷ xs) a (x, y, one, more, parts) =
     ∙ ap (λ (t : List ℕ). spell (segment_tree s) ++ t) (segments_alike p xs y more)
 
 -- ---- where they stand
-
-part_stands : (whole front part back named : List ℕ) (n : ℕ) → whole ≡ front ++ (part ++ back) → part ≡ named
-    → length front ≡ n → IsRange whole n named
-part_stands whole front part back named n parts same len =
-    let f : FrameView = record { format = 0; body = part; at = n } in
-    let P : List ℕ → Type 0 = IsRange whole n in
-    subst P same (all_ranges whole (f ∷ []) ((front, back, parts, omega (arith, len)), tt)).0
 
 lists_stand : (p : Pad) (body : List ℕ) (r : GatewayRec) → SpellsFront p extended_gateway body (gateway_content r)
     → HasLists body r

@@ -5,9 +5,8 @@ ghost use Rattle.xdr_words.specs.Readers.{Gives};
 ghost use Rattle.data_format.specs.Records.{AreFieldsOf, record_reading};
 ghost use Rattle.rec_extended.specs.RouteContents.{gateway_content, gateway_parts, path_of, communities_of, AreShortLists, HasLists};
 
-use crate::address_parts::address_parts;
 use crate::{AsPath, Words};
-use data_format::{Address, Fault, RecordBody};
+use data_format::{Address, Fault, RecordBody, address_parts};
 use wire_spec::Pad;
 use xdr_words::{Cursor, Item, Out, OutFull, length_of_run, write_run};
 

@@ -2,7 +2,6 @@
 //! Lists are read from the borrowed bytes.
 #![tactic(auto)]
 
-mod address_parts;
 mod gateway;
 mod router;
 mod switch;

@@ -2,8 +2,7 @@ ghost use Rattle.wire_spec.specs.Tables.{extended_router};
 ghost use Rattle.data_format.specs.Records.{AreFieldsOf};
 ghost use Rattle.rec_extended.specs.RouteContents.{router_content};
 
-use crate::address_parts::address_parts;
-use data_format::{Address, Fault, RecordBody};
+use data_format::{Address, Fault, RecordBody, address_parts};
 use wire_spec::Pad;
 use xdr_words::{Cursor, Item, Out, OutFull, length_of_run, write_run};
 

@@ -10,10 +10,10 @@ use std::marker::Model;
 // How many bytes of a source are read at a time.
 const ROOM: usize = 1 << 16;
 
-// Bytes that were read ahead of a source, so that it is read in large pieces. It is seen as the bytes that
-// it still holds.
+/// Bytes that were read ahead of a source, so that it is read at least 64 KiB at a time. It is seen as the bytes that
+/// it still holds. It owns them, so it is used with one source.
 #[derive(Drop)]
-pub(crate) struct ReadAhead {
+pub struct ReadAhead {
     room: Vec<u8>,
     from: usize,
     to: usize,
@@ -36,7 +36,8 @@ pub(crate) fn new_room(alloc: Global) -> Result<Vec<u8>, AllocError>
 }
 
 impl ReadAhead {
-    pub(crate) fn new(alloc: Global) -> Result<ReadAhead, AllocError>
+    /// Room for 65,536 bytes, which holds none yet. `AllocError` comes only for want of memory.
+    pub fn new(alloc: Global) -> Result<ReadAhead, AllocError>
         ensures { IfOk result (λ ahead. ahead ≡ []) }
     {
         let room = new_room(alloc)?;
@@ -86,12 +87,10 @@ impl ReadAhead {
         Ok(self.give(room))
     }
 
-    // Reads until the room is full or the source is at its end.
-    pub(crate) fn read_most<S: Source>(
-        &mut self,
-        source: &mut S,
-        room: &mut [u8],
-    ) -> Result<usize, Failed>
+    /// Reads until the room is full or the source is at its end, and answers how many bytes it moved. The source is
+    /// read only where nothing is held. After `Failed` nothing is held; the bytes moved before it stand at the start
+    /// of the room, and how many is not told.
+    pub fn read_most<S: Source>(&mut self, source: &mut S, room: &mut [u8]) -> Result<usize, Failed>
         ensures reads { ReadsMost (with_held self.old (S.seen source.old)) (with_held self.new (S.seen source.new))
             result room.new }
         ensures none { OnErr result (self.new ≡ []) }

@@ -16,7 +16,7 @@ use std::{fs, io};
 use table::Table;
 
 // What rows share comes first.
-const TABLES: [&str; 10] = [
+const TABLES: [&str; 11] = [
     "parts.txt",
     "words.txt",
     "replay.txt",
@@ -24,6 +24,7 @@ const TABLES: [&str; 10] = [
     "show.txt",
     "check.txt",
     "records.txt",
+    "more_records.txt",
     "canon.txt",
     "ends.txt",
     "wrong.txt",

@@ -5,7 +5,7 @@ use Rattle.std.proofs.lemmas.Bool.{cases_lt}
 use Rattle.std.proofs.lemmas.Grind.{flat_map-append}
 use Rattle.std.proofs.lemmas.List.Elements.{All-take}
 use Rattle.wire_spec.specs.declared.input_kind.InputKind.{InputKind}
-use Rattle.wire_spec.specs.declared.input_kind.InputKind.TheVariants.{Magic, Version, Cut, Long, Padding, Script}
+use Rattle.wire_spec.specs.declared.input_kind.InputKind.TheVariants.{Magic, Version, Cut, Long, Padding}
 use Rattle.wire_spec.specs.Bytes.{AreBytes, BeginsWith}
 use Rattle.wire_spec.specs.Captures.{BreaksOff, Capture, CaptureFault, CaptureOutcome, CaptureThen, Entry, IsBroken, IsCaptureOutcome, IsEntry, capture_bytes, capture_header, entry_bytes, entry_head, magic}
 use Rattle.wire_spec.specs.CaptureReading.{capture_reading}
@@ -85,9 +85,7 @@ broken_some rest within Long h =
     omega (arith, ap length begins.1, length-append (entry_head h.1.0 h.1.1) begins.0, length-entry_head h.1.0 h.1.1)
 broken_some rest within Padding h =
     omega (arith, ap length h.begins.1, length-append (entry_head h.entry.arrival (length h.entry.bytes) ++ (h.entry.bytes ++ (replicate h.zeros 0 ++ h.stray ∷ []))) h.begins.0, length-append (entry_head h.entry.arrival (length h.entry.bytes)) (h.entry.bytes ++ (replicate h.zeros 0 ++ h.stray ∷ [])), length-entry_head h.entry.arrival (length h.entry.bytes))
-broken_some rest within Magic h = absurd h
-broken_some rest within Version h = absurd h
-broken_some rest within Script h = absurd h
+broken_some rest within _ h = absurd h
 
 of_break : (c : Command) (input : List ℕ) (at : ℕ) (kind : InputKind) → CaptureFault input at kind
     → BreaksOff input at kind → Ending c input
@@ -128,7 +126,7 @@ of_fault c input at Version fault = headless c input at Version fault fault.2
 of_fault c input at Cut fault = of_break c input at Cut fault fault
 of_fault c input at Long fault = of_break c input at Long fault fault
 of_fault c input at Padding fault = of_break c input at Padding fault fault
-of_fault c input at Script fault = absurd fault
+of_fault c input at _ fault = absurd fault
 
 by_reading : (c : Command) (input : List ℕ) (r : CaptureOutcome) → IsCaptureOutcome input r → Ending c input
 by_reading c input (Ok entries) is = of_capture c input entries is

@@ -93,6 +93,12 @@ fn kind_name(kind: InputKind) -> &'static str
         InputKind::Cut => "cut",
         InputKind::Long => "long",
         InputKind::Padding => "padding",
+        InputKind::Item => "item",
+        InputKind::Address => "address",
+        InputKind::Port => "port",
+        InputKind::Count => "count",
+        InputKind::After => "after",
+        InputKind::Link => "link",
         InputKind::Script => "script",
     }
 }

@@ -1,5 +1,4 @@
 pub mod Fronts
-pub mod Rows
 pub mod Lists
 pub mod Series
 pub mod Places

@@ -11,3 +11,6 @@ dot3_front members = codes "  dot3" ++ spaced_text members
 
 unfoldable pub vlan_front : Trees → List ℕ
 vlan_front members = codes "  vlan" ++ spaced_text members
+
+unfoldable pub processor_front : Trees → List ℕ
+processor_front members = codes "  processor" ++ spaced_text members

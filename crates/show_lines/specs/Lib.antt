@@ -1,10 +1,12 @@
 pub mod CounterLines
 pub mod FlowLines
+pub mod FurtherLines
 pub mod Joined
 pub mod Lines
 pub mod Shown
 pub mod Worked
 pub mod WorkedRecords
+pub mod WorkedFurther
 pub use Rattle.datagram_core.specs.Tables
 pub use Rattle.sflow_io.specs.Seen
 pub use Rattle.text_lines.specs.Pages

@@ -1,6 +1,6 @@
 -- The lines, from plain values. A line of which the front is given here ends by `line_end`; the others end with their
 -- line feed.
-use Rattle.std.specs.Prelude.{ℕ, List, [], ◌∷◌, codes, decimal, length}
+use Rattle.std.specs.Prelude.{ℕ, List, [], ◌∷◌, codes, decimal, length, Option, Some, None}
 use Rattle.std.specs.List.{concat}
 use Rattle.wire_spec.specs.declared.fault.Fault.{Fault}
 use Rattle.wire_spec.specs.FaultNames.{fault_name}
@@ -9,6 +9,7 @@ use Rattle.wire_spec.specs.Texts.{address_text, hex}
 use Rattle.data_format.specs.declared.format.Format.{Format}
 use Rattle.data_format.specs.declared.heads.FlowHead.{FlowHead}
 use Rattle.data_format.specs.declared.heads.CountersHead.{CountersHead}
+use Rattle.capture_spec.specs.Items.{Sender}
 use Rattle.text_lines.specs.Bytes.{hex_or_dash}
 
 -- the number of an entry, its arrival in ms, and how many bytes it has
@@ -18,6 +19,21 @@ entry_line number arrival count = concat (
     codes " at " ∷ decimal arrival ∷
     codes " bytes " ∷ decimal count ∷
     codes "\n" ∷ [])
+
+-- the same with the address and the port of its sender
+unfoldable pub sent_line : ℕ → ℕ → Sender → ℕ → List ℕ
+sent_line number arrival from count = concat (
+    codes "entry " ∷ decimal number ∷
+    codes " at " ∷ decimal arrival ∷
+    codes " from " ∷ address_text from.address ∷
+    codes " " ∷ decimal from.port ∷
+    codes " bytes " ∷ decimal count ∷
+    codes "\n" ∷ [])
+
+-- with a sender or without one
+abbrev pub received_line : ℕ → ℕ → Option Sender → ℕ → List ℕ
+received_line number arrival None count = entry_line number arrival count
+received_line number arrival (Some from) count = sent_line number arrival from count
 
 -- the place of a fault, and its kind
 unfoldable pub fault_line : Fault → List ℕ

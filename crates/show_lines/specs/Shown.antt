@@ -12,10 +12,12 @@ use Rattle.datagram_core.specs.Tables.{datagram_read}
 use Rattle.datagram_core.specs.declared.records.RecordKind.{RecordKind}
 use Rattle.datagram_core.specs.declared.records.RecordKind.TheVariants.{Flow, Counters, Unknown}
 use Rattle.data_format.specs.Values.{format_of, members_of, values_of, member, head_in, flow_head_in, counters_head_in, flow_records_in, counter_records_in, tail_in}
-use Rattle.show_lines.specs.CounterLines.{interface_front, dot3_front, vlan_front}
+use Rattle.capture_spec.specs.Items.{Received}
+use Rattle.show_lines.specs.CounterLines.{interface_front, dot3_front, vlan_front, processor_front}
 use Rattle.show_lines.specs.FlowLines.{header_front, ethernet_front, ipv4_front, ipv6_front, switch_front, router_front, gateway_front}
+use Rattle.show_lines.specs.FurtherLines.{user_front, url_front, mpls_front, nat_front}
 use Rattle.show_lines.specs.Joined.{texts_of}
-use Rattle.show_lines.specs.Lines.{entry_line, fault_line, datagram_line, flow_front, counters_front, frame_front, line_end}
+use Rattle.show_lines.specs.Lines.{entry_line, received_line, fault_line, datagram_line, flow_front, counters_front, frame_front, line_end}
 
 -- ---- records
 
@@ -28,14 +30,19 @@ flow_record_front k members =
     if k == 4 then ipv6_front members else (
     if k == 1001 then switch_front members else (
     if k == 1002 then router_front members else (
-    if k == 1003 then gateway_front members else []))))))
+    if k == 1003 then gateway_front members else (
+    if k == 1004 then user_front members else (
+    if k == 1005 then url_front members else (
+    if k == 1006 then mpls_front members else (
+    if k == 1007 then nat_front members else []))))))))))
 
 -- the same of a counter record
 abbrev pub counter_record_front : ℕ → Trees → List ℕ
 counter_record_front k members =
     if k == 1 then interface_front members else (
     if k == 2 then dot3_front members else (
-    if k == 5 then vlan_front members else []))
+    if k == 5 then vlan_front members else (
+    if k == 1001 then processor_front members else [])))
 
 -- the same number is one format of flow records and another one of counter records
 abbrev pub known_record : RecordKind → ℕ → Trees → List ℕ
@@ -115,3 +122,8 @@ outcome_text (Err f) = fault_line f
 -- the lines of an entry with this number, counting from 1
 unfoldable pub entry_text : ℕ → Entry → List ℕ
 entry_text number e = entry_line number e.arrival (length e.bytes) ++ outcome_text (outcome_of e.bytes)
+
+-- the same of an entry of either version: its line tells the sender where there is one
+unfoldable pub received_text : ℕ → Received → List ℕ
+received_text number e =
+    received_line number e.arrival e.sender (length e.bytes) ++ outcome_text (outcome_of e.bytes)

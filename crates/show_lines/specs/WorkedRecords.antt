@@ -15,6 +15,10 @@ flow_record_lines =
     codes "  router nexthop 2001:0db8:0000:0000:0000:0000:0000:0009 src 24 dst 16\n" ++
     codes "  gateway nexthop unknown as 65000 src 65001 peer 65002" ++
     codes " path seq:65003,65004;set:65010 communities 9 localpref 100\n" ++
+    codes "  user src 3 616263 dst 4 -\n" ++
+    codes "  url direction 2 url 2f613f62 host 782e79\n" ++
+    codes "  mpls nexthop 10.0.0.9 in 74565,16 out 17 tail deadbeef\n" ++
+    codes "  nat src 10.0.0.1 dst 2001:0db8:0000:0000:0000:0000:0000:0009\n" ++
     codes "  record 4413:7 bytes 4 aabbcc00\n"
 
 abbrev pub interface_line : List ℕ
@@ -24,7 +28,8 @@ abbrev pub counter_record_lines : List ℕ
 counter_record_lines =
     interface_line ++
     codes "  dot3 1 2 3 4 5 6 7 8 9 10 11 12 13\n" ++
-    codes "  vlan 1 8589934595 4 5 6 7\n"
+    codes "  vlan 1 8589934595 4 5 6 7\n" ++
+    codes "  processor 1 2 3 17179869189 25769803783\n"
 
 abbrev pub with_records : List ℕ
 with_records = codes " flow seq 1 source 0:5 rate 256 pool 512 drops 0 in 0:5 out 0:6 records "

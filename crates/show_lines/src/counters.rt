@@ -1,12 +1,14 @@
 // The lines of counter records, up to the tail: their fields in the order of the wire.
 ghost use Rattle.std.specs.Prelude.{◌++◌, codes, decimal, flat_map};
 ghost use Rattle.rec_counters.specs.Contents.{interface_content, ethernet_content, vlan_content};
+ghost use Rattle.rec_more.specs.Contents.{processor_content};
 ghost use Rattle.text_lines.specs.Pages.{Prints};
-ghost use Rattle.show_lines.specs.CounterLines.{interface_front, dot3_front, vlan_front};
+ghost use Rattle.show_lines.specs.CounterLines.{interface_front, dot3_front, vlan_front, processor_front};
 ghost use Rattle.data_format.specs.Values.{members_of};
 
 use crate::parts::{put_row, put_text};
 use rec_counters::{EthernetCounters, IfCounters, VlanCounters};
+use rec_more::ProcessorCounters;
 use sflow_io::{Failed, Sink};
 use text_lines::Page;
 
@@ -91,6 +93,26 @@ pub(crate) fn put_vlan<K: Sink>(
         this.discards as u64,
     ];
     put_named(page, sink, "  vlan", &numbers)
+}
+
+// The load of a processor.
+#[tactic(auto, unfolding(crate::specs::CounterLines::processor_front))]
+pub(crate) fn put_processor<K: Sink>(
+    page: &mut Page,
+    sink: &mut K,
+    this: &ProcessorCounters<'_>,
+) -> Result<(), Failed>
+    ensures { Prints (K.seen sink.old) (K.seen sink.new) page.old page.new result
+        (processor_front (members_of (processor_content this.now).0)) }
+{
+    let numbers = [
+        this.cpu_5s as u64,
+        this.cpu_1m as u64,
+        this.cpu_5m as u64,
+        this.total_memory,
+        this.free_memory,
+    ];
+    put_named(page, sink, "  processor", &numbers)
 }
 
 // A name, and then numbers, each behind a space.

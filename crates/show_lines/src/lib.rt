@@ -4,6 +4,7 @@
 mod counters;
 mod entry;
 mod extended;
+mod further;
 mod headers;
 mod laws;
 mod lines;
@@ -12,8 +13,8 @@ mod path;
 mod record;
 mod sample;
 
-pub use entry::{put_entry, show_entry};
-pub use laws::{shown_as_the_grammar_says, worked_entries, worked_records};
+pub use entry::{put_entry, put_received, show_entry};
+pub use laws::{shown_as_the_grammar_says, worked_entries, worked_further_records, worked_records};
 
 #[cfg(test)]
 mod tests;

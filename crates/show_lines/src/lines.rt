@@ -1,11 +1,12 @@
 // The lines, from plain values.
 ghost use Rattle.datagram_core.specs.Heads.{head_of};
+ghost use Rattle.sflow_io.specs.Senders.{sender_of, sender_in};
 ghost use Rattle.text_lines.specs.Pages.{Prints};
-ghost use Rattle.show_lines.specs.Lines.{entry_line, fault_line, datagram_line, flow_front, counters_front, frame_front, line_end};
+ghost use Rattle.show_lines.specs.Lines.{entry_line, sent_line, received_line, fault_line, datagram_line, flow_front, counters_front, frame_front, line_end};
 
 use data_format::{CountersHead, FlowHead, Format};
 use datagram_core::DatagramHead;
-use sflow_io::{Failed, Sink};
+use sflow_io::{Failed, Sender, Sink};
 use text_lines::{Page, Piece};
 use wire_spec::Fault;
 
@@ -31,6 +32,53 @@ pub(crate) fn put_entry_line<K: Sink>(
         Piece::Text("\n"),
     ];
     page.put_line(sink, &pieces)
+}
+
+// The same with the address and the port of its sender.
+#[tactic(auto, unfolding(crate::specs::Lines::sent_line))]
+fn put_sent_line<K: Sink>(
+    page: &mut Page,
+    sink: &mut K,
+    number: u64,
+    at: u64,
+    from: &Sender,
+    count: usize,
+) -> Result<(), Failed>
+    ensures { Prints (K.seen sink.old) (K.seen sink.new) page.old page.new result
+        (sent_line number at (sender_of from.now) count) }
+{
+    let pieces = [
+        Piece::Text("entry "),
+        Piece::Number(number as u128),
+        Piece::Text(" at "),
+        Piece::Number(at as u128),
+        Piece::Text(" from "),
+        Piece::Address(from.address),
+        Piece::Text(" "),
+        Piece::Number(from.port as u128),
+        Piece::Text(" bytes "),
+        Piece::Number(count as u128),
+        Piece::Text("\n"),
+    ];
+    page.put_line(sink, &pieces)
+}
+
+// The line of an entry, with its sender where there is one.
+pub(crate) fn put_received_line<K: Sink>(
+    page: &mut Page,
+    sink: &mut K,
+    number: u64,
+    at: u64,
+    from: Option<Sender>,
+    count: usize,
+) -> Result<(), Failed>
+    ensures { Prints (K.seen sink.old) (K.seen sink.new) page.old page.new result
+        (received_line number at (sender_in from) count) }
+{
+    match from {
+        None => put_entry_line(page, sink, number, at, count),
+        Some(sender) => put_sent_line(page, sink, number, at, &sender, count),
+    }
 }
 
 // The place of a fault, and its kind.

@@ -10,9 +10,12 @@ datagram agent 10.0.0.1 sub 0 seq 1 uptime 1000 samples 0\n";
 #[test]
 fn an_entry_is_shown_as_far_as_it_fits(rt: HostRuntime) {
     let mut sink = MemorySink::new(rt.alloc(), 100, Vec::new(rt.alloc()));
-    assert_eq!(rt; show_entry(&mut sink, 1, 1000, &EMPTY), Ok(()));
+    assert_eq!(rt; show_entry(&mut sink, 1, 1000, None, &EMPTY), Ok(()));
     assert!(rt; sink.bytes() == LINES.as_bytes());
     let mut few = MemorySink::new(rt.alloc(), 20, Vec::new(rt.alloc()));
-    assert_eq!(rt; show_entry(&mut few, 1, 1000, &EMPTY), Err(WriteFault));
+    assert_eq!(rt;
+        show_entry(&mut few, 1, 1000, None, &EMPTY),
+        Err(WriteFault)
+    );
     assert!(rt; few.bytes().len() == 20 && LINES.as_bytes().starts_with(few.bytes()));
 }

@@ -4,4 +4,6 @@ mod BootSteps
 pub mod GenerationCounts
 pub mod NumberSteps
 mod Values
+mod BootValues
 mod FlowSteps
+mod BootFlowSteps

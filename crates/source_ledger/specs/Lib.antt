@@ -5,4 +5,5 @@ pub mod Generations
 pub mod Numbers
 pub mod Rises
 pub mod Flows
+pub mod BootFlows
 pub mod Fields

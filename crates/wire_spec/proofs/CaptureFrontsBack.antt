@@ -2,7 +2,7 @@
 use Rattle.std.proofs.Common.{◌≡◌, ◌≢◌, ℕ, ◌+◌, ◌^◌, ◌<◌, ◌≤◌, true, false, nat_lt, inl, inr, List, [], ◌∷◌, ◌++◌, length, replicate, refl, sym, ap, ◌∙◌, append_assoc, arith, take_at, drop_at, take_all, length-append, lt-ltb, le-ltb}
 use Rattle.std.proofs.lemmas.Bool.{cases_lt}
 use Rattle.wire_spec.specs.declared.input_kind.InputKind.{InputKind}
-use Rattle.wire_spec.specs.declared.input_kind.InputKind.TheVariants.{Magic, Version, Cut, Long, Padding, Script}
+use Rattle.wire_spec.specs.declared.input_kind.InputKind.TheVariants.{Cut, Long, Padding}
 use Rattle.wire_spec.specs.Padding.{padding_of}
 use Rattle.wire_spec.specs.Captures.{Entry, IsEntry, entry_head, entry_bytes, IsCutEntry, IsLongEntry, IsBadPadding, IsBroken}
 use Rattle.wire_spec.specs.CaptureReading.{Front, Stops, Holds, Breaks, front_of_padding, front_of_body, front_of_entry, front_of, IsFront}
@@ -178,9 +178,7 @@ broken_back : (rest : List ℕ) (within : ℕ) (kind : InputKind) → IsBroken r
 broken_back rest within Cut h = cut_back rest h.1 ∙ ap (λ k. Breaks k Cut) (sym h.0)
 broken_back rest within Long h = long_back rest h.1 ∙ ap (λ k. Breaks k Long) (sym h.0)
 broken_back rest within Padding h = padding_back rest within h
-broken_back rest within Magic h = absurd h
-broken_back rest within Version h = absurd h
-broken_back rest within Script h = absurd h
+broken_back rest within _ h = absurd h
 
 stops_back : (rest : List ℕ) → rest ≡ [] → front_of rest ≡ Stops
 unfolding front_of

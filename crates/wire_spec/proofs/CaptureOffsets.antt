@@ -1,7 +1,7 @@
 -- Where faults stand.
 use Rattle.std.proofs.Common.{ℕ, ◌≤◌, List, [], ◌∷◌, ◌++◌, length, replicate, ap, arith, length-append}
 use Rattle.wire_spec.specs.declared.input_kind.InputKind.{InputKind}
-use Rattle.wire_spec.specs.declared.input_kind.InputKind.TheVariants.{Magic, Version, Cut, Long, Padding, Script}
+use Rattle.wire_spec.specs.declared.input_kind.InputKind.TheVariants.{Magic, Version, Cut, Long, Padding}
 use Rattle.wire_spec.specs.Captures.{entry_head, magic, capture_bytes, IsLongEntry, IsBadPadding, IsBroken, BreaksOff, CaptureFault}
 use Rattle.wire_spec.proofs.ZeroBytes.{length_zeros}
 use Rattle.wire_spec.proofs.EntryHeads.{length-entry_head}
@@ -33,9 +33,7 @@ broken_within : (rest : List ℕ) (within : ℕ) (kind : InputKind) → IsBroken
 broken_within rest within Cut h = omega (arith, h.0)
 broken_within rest within Long h = omega (arith, h.0, long_within rest h.1)
 broken_within rest within Padding h = padding_within rest within h
-broken_within rest within Magic h = absurd h
-broken_within rest within Version h = absurd h
-broken_within rest within Script h = absurd h
+broken_within rest within _ h = absurd h
 
 breaks_within : (bytes : List ℕ) (at : ℕ) (kind : InputKind) → BreaksOff bytes at kind → at ≤ length bytes
 breaks_within bytes at kind h =
@@ -55,4 +53,4 @@ fault_within bytes at Version h = omega (arith, h.0, ap length h.1.1, length-app
 fault_within bytes at Cut h = breaks_within bytes at Cut h
 fault_within bytes at Long h = breaks_within bytes at Long h
 fault_within bytes at Padding h = breaks_within bytes at Padding h
-fault_within bytes at Script h = absurd h
+fault_within bytes at _ h = absurd h

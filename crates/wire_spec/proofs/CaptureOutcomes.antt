@@ -4,7 +4,7 @@ use Rattle.std.specs.Int.{w32, to_be_bytes}
 use Rattle.std.proofs.lemmas.Bool.{cond_both, cond-true, cond-false, false_from_ne_true, both_ways}
 use Rattle.std.proofs.lemmas.Slice.Eq.{bytes_eq-Decides}
 use Rattle.wire_spec.specs.declared.input_kind.InputKind.{InputKind}
-use Rattle.wire_spec.specs.declared.input_kind.InputKind.TheVariants.{Magic, Version, Cut, Long, Padding, Script}
+use Rattle.wire_spec.specs.declared.input_kind.InputKind.TheVariants.{Magic, Version, Cut, Long, Padding}
 use Rattle.wire_spec.specs.Bytes.{AreBytes, BeginsWith}
 use Rattle.wire_spec.specs.Captures.{Entry, entry_bytes, magic, capture_header, capture_bytes, Capture, BreaksOff, CaptureFault, CaptureOutcome, IsCaptureOutcome, HasOneReading}
 use Rattle.wire_spec.specs.CaptureReading.{entries_reading, capture_reading}
@@ -67,9 +67,7 @@ fault_after : (bytes rest : List ℕ) (at : ℕ) (kind : InputKind) → bytes �
 fault_after bytes rest at Cut whole h = broken_after bytes rest at Cut whole h
 fault_after bytes rest at Long whole h = broken_after bytes rest at Long whole h
 fault_after bytes rest at Padding whole h = broken_after bytes rest at Padding whole h
-fault_after bytes rest at Magic whole h = absurd h.broken
-fault_after bytes rest at Version whole h = absurd h.broken
-fault_after bytes rest at Script whole h = absurd h.broken
+fault_after bytes rest at _ whole h = absurd h.broken
 
 outcome_after : (bytes rest : List ℕ) (r : CaptureOutcome) → bytes ≡ capture_header 1 ++ rest
     → AreRead 8 rest r → IsCaptureOutcome bytes r
@@ -147,7 +145,7 @@ fault_back bytes at Version (is, same, other) =
 fault_back bytes at Cut h = read_broken bytes at Cut h
 fault_back bytes at Long h = read_broken bytes at Long h
 fault_back bytes at Padding h = read_broken bytes at Padding h
-fault_back bytes at Script h = absurd h
+fault_back bytes at _ h = absurd h
 
 -- an outcome of bytes is what is read of them
 pub outcome_back : (bytes : List ℕ) (r : CaptureOutcome) → IsCaptureOutcome bytes r

@@ -3,7 +3,7 @@ use Rattle.std.proofs.Common.{◌≡◌, ℕ, ◌+◌, List, [], ◌∷◌, ◌+
 use Rattle.std.proofs.lemmas.List.Concat.{flat_map-append}
 use Rattle.std.proofs.lemmas.List.Elements.{All-push, All-nil}
 use Rattle.wire_spec.specs.declared.input_kind.InputKind.{InputKind}
-use Rattle.wire_spec.specs.declared.input_kind.InputKind.TheVariants.{Magic, Version, Cut, Long, Padding, Script}
+use Rattle.wire_spec.specs.declared.input_kind.InputKind.TheVariants.{Cut, Long, Padding}
 use Rattle.wire_spec.specs.Bytes.{AreBytes}
 use Rattle.wire_spec.specs.Captures.{Entry, IsEntry, entry_bytes, capture_header, capture_bytes, Capture, CaptureThen, BreaksOff, CaptureFault}
 use Rattle.wire_spec.specs.CaptureReading.{Stops, Holds, Breaks, front_of, IsFront}
@@ -58,9 +58,7 @@ kinds_of_breaks : (bytes : List ℕ) (at : ℕ) (kind : InputKind) → BreaksOff
 kinds_of_breaks bytes at Cut h = h
 kinds_of_breaks bytes at Long h = h
 kinds_of_breaks bytes at Padding h = h
-kinds_of_breaks bytes at Magic h = absurd h.broken
-kinds_of_breaks bytes at Version h = absurd h.broken
-kinds_of_breaks bytes at Script h = absurd h.broken
+kinds_of_breaks bytes at _ h = absurd h.broken
 
 pub walk_breaks : (entries : List Entry) (rest bytes : List ℕ) (within : ℕ) (kind : InputKind)
     → AreBytes bytes

@@ -12,6 +12,8 @@ pub mod Bodies
 pub mod FreePadding
 pub mod LastMember
 pub mod OneHead
+pub mod FurtherFormats
+pub mod WithoutFurther
 pub mod Spellings
 pub mod Computed
 pub mod EntryHeads

@@ -4,7 +4,7 @@
 use Rattle.std.specs.Prelude.{◌≡◌, ◌≢◌, ℕ, ◌+◌, ◌^◌, ◌<◌, ◌≤◌, ◌⊎◌, List, [], ◌∷◌, ◌++◌, length, replicate, flat_map, All, Result, Ok, Err, codes}
 use Rattle.std.specs.Int.{w32, w64, to_be_bytes}
 use Rattle.wire_spec.specs.declared.input_kind.InputKind.{InputKind}
-use Rattle.wire_spec.specs.declared.input_kind.InputKind.TheVariants.{Magic, Version, Cut, Long, Padding, Script}
+use Rattle.wire_spec.specs.declared.input_kind.InputKind.TheVariants.{Magic, Version, Cut, Long, Padding}
 use Rattle.wire_spec.specs.Bytes.{BeginsWith}
 use Rattle.wire_spec.specs.Exactly.{OneOfEither}
 use Rattle.wire_spec.specs.Padding.{padding_of}
@@ -87,9 +87,7 @@ abbrev pub IsBroken : List ℕ → ℕ → InputKind → Type 0
 IsBroken rest within Cut = (within ≡ 0) × IsCutEntry rest
 IsBroken rest within Long = (within ≡ 8) × IsLongEntry rest
 IsBroken rest within Padding = IsBadPadding rest within
-IsBroken rest within Magic = ⊥
-IsBroken rest within Version = ⊥
-IsBroken rest within Script = ⊥
+IsBroken rest within _ = ⊥
 
 -- ---- the fault of bytes that are no capture, and its offset
 
@@ -112,7 +110,7 @@ CaptureFault bytes offset Version =
 CaptureFault bytes offset Cut = BreaksOff bytes offset Cut
 CaptureFault bytes offset Long = BreaksOff bytes offset Long
 CaptureFault bytes offset Padding = BreaksOff bytes offset Padding
-CaptureFault bytes offset Script = ⊥
+CaptureFault bytes offset _ = ⊥
 
 -- ---- what the laws say
 

@@ -14,6 +14,8 @@ pub mod Tables
 pub mod Heads
 pub mod Examples
 pub mod RecordExamples
+pub mod FurtherFormats
+pub mod FurtherExamples
 pub mod Captures
 pub mod CaptureReading
 pub mod CaptureRows

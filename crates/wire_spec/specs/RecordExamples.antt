@@ -15,6 +15,10 @@ flow_record_words =
     1001 ∷ 16 ∷ 100 ∷ 1 ∷ 200 ∷ 2 ∷ [] ++
     1002 ∷ 28 ∷ 2 ∷ 0x20010db8 ∷ 0 ∷ 0 ∷ 9 ∷ 24 ∷ 16 ∷ [] ++
     1003 ∷ 60 ∷ 0 ∷ 65000 ∷ 65001 ∷ 65002 ∷ 2 ∷ 2 ∷ 2 ∷ 65003 ∷ 65004 ∷ 1 ∷ 1 ∷ 65010 ∷ 1 ∷ 9 ∷ 100 ∷ [] ++
+    1004 ∷ 20 ∷ 3 ∷ 3 ∷ 0x61626300 ∷ 4 ∷ 0 ∷ [] ++
+    1005 ∷ 20 ∷ 2 ∷ 4 ∷ 0x2f613f62 ∷ 3 ∷ 0x782e7900 ∷ [] ++
+    1006 ∷ 32 ∷ 1 ∷ 0x0a000009 ∷ 2 ∷ 74565 ∷ 16 ∷ 1 ∷ 17 ∷ 0xdeadbeef ∷ [] ++
+    1007 ∷ 28 ∷ 1 ∷ 0x0a000001 ∷ 2 ∷ 0x20010db8 ∷ 0 ∷ 0 ∷ 9 ∷ [] ++
     0x0113d007 ∷ 4 ∷ 0xaabbcc00 ∷ []
 
 abbrev pub ipv6_bytes : ℕ → List ℕ
@@ -53,6 +57,14 @@ flow_record_trees =
     known 1003 (Tree.structure (
     unknown_hop & Tree.word 65000 & Tree.word 65001 & Tree.word 65002 & as_path & Tree.array (Tree.word 9 & none) &
     Tree.word 100 & none)) [] &
+    known 1004 (Tree.structure (
+    Tree.word 3 & Tree.opaque (97 ∷ 98 ∷ 99 ∷ []) & Tree.word 4 & Tree.opaque [] & none)) [] &
+    known 1005 (Tree.structure (
+    Tree.word 2 & Tree.opaque (47 ∷ 97 ∷ 63 ∷ 98 ∷ []) & Tree.opaque (120 ∷ 46 ∷ 121 ∷ []) & none)) [] &
+    known 1006 (Tree.structure (
+    Tree.union 1 (Tree.fixed (10 ∷ 0 ∷ 0 ∷ 9 ∷ [])) & Tree.array (Tree.word 74565 & Tree.word 16 & none) &
+    Tree.array (Tree.word 17 & none) & none)) (222 ∷ 173 ∷ 190 ∷ 239 ∷ []) &
+    known 1007 (Tree.structure (Tree.union 1 (Tree.fixed (10 ∷ 0 ∷ 0 ∷ 1 ∷ [])) & next_hop & none)) [] &
     other 0x0113d007 (170 ∷ 187 ∷ 204 ∷ 0 ∷ []) & none
 
 -- ---- counter records, whose words are numbered from 1
@@ -61,7 +73,8 @@ abbrev pub counter_record_words : List ℕ
 counter_record_words =
     1 ∷ 88 ∷ 1 ∷ 2 ∷ 3 ∷ 4 ∷ 5 ∷ 6 ∷ 7 ∷ 8 ∷ 9 ∷ 10 ∷ 11 ∷ 12 ∷ 13 ∷ 14 ∷ 15 ∷ 16 ∷ 17 ∷ 18 ∷ 19 ∷ 20 ∷ 21 ∷ 22 ∷ [] ++
     2 ∷ 52 ∷ 1 ∷ 2 ∷ 3 ∷ 4 ∷ 5 ∷ 6 ∷ 7 ∷ 8 ∷ 9 ∷ 10 ∷ 11 ∷ 12 ∷ 13 ∷ [] ++
-    5 ∷ 28 ∷ 1 ∷ 2 ∷ 3 ∷ 4 ∷ 5 ∷ 6 ∷ 7 ∷ []
+    5 ∷ 28 ∷ 1 ∷ 2 ∷ 3 ∷ 4 ∷ 5 ∷ 6 ∷ 7 ∷ [] ++
+    1001 ∷ 28 ∷ 1 ∷ 2 ∷ 3 ∷ 4 ∷ 5 ∷ 6 ∷ 7 ∷ []
 
 abbrev pub counter_record_trees : Trees
 counter_record_trees =
@@ -74,15 +87,17 @@ counter_record_trees =
     Tree.word 1 & Tree.word 2 & Tree.word 3 & Tree.word 4 & Tree.word 5 & Tree.word 6 & Tree.word 7 & Tree.word 8 &
     Tree.word 9 & Tree.word 10 & Tree.word 11 & Tree.word 12 & Tree.word 13 & none)) [] &
     known 5 (Tree.structure (
-    Tree.word 1 & Tree.hyper 8589934595 & Tree.word 4 & Tree.word 5 & Tree.word 6 & Tree.word 7 & none)) [] & none
+    Tree.word 1 & Tree.hyper 8589934595 & Tree.word 4 & Tree.word 5 & Tree.word 6 & Tree.word 7 & none)) [] &
+    known 1001 (Tree.structure (
+    Tree.word 1 & Tree.word 2 & Tree.word 3 & Tree.hyper 17179869189 & Tree.hyper 25769803783 & none)) [] & none
 
 -- ---- an expanded flow sample, an expanded and a compact counters sample, the last with a tail, and another format
 
 abbrev pub every_record : List ℕ
 every_record = words (
     head_words 1 4 ++
-    3 ∷ 348 ∷ 1 ∷ 0 ∷ 16777216 ∷ 256 ∷ 512 ∷ 3 ∷ 0 ∷ 5 ∷ 1 ∷ 6 ∷ 8 ∷ [] ++ flow_record_words ++
-    4 ∷ 208 ∷ 1 ∷ 0 ∷ 7 ∷ 3 ∷ [] ++ counter_record_words ++
+    3 ∷ 480 ∷ 1 ∷ 0 ∷ 16777216 ∷ 256 ∷ 512 ∷ 3 ∷ 0 ∷ 5 ∷ 1 ∷ 6 ∷ 12 ∷ [] ++ flow_record_words ++
+    4 ∷ 244 ∷ 1 ∷ 0 ∷ 7 ∷ 4 ∷ [] ++ counter_record_words ++
     2 ∷ 16 ∷ 9 ∷ 5 ∷ 0 ∷ 0xdeadbeef ∷ [] ++
     0x0113d008 ∷ 0 ∷ [])
 

@@ -48,6 +48,22 @@ abbrev pub extended_gateway : Shape
 extended_gateway = structure (
     agent_address then word then word then word then array path_segment then array word then word then end)
 
+-- source character set, source user, destination character set, destination user
+abbrev pub extended_user : Shape
+extended_user = structure (word then opaque then word then opaque then end)
+
+-- direction, URL, host
+abbrev pub extended_url : Shape
+extended_url = structure (word then opaque then opaque then end)
+
+-- next hop, labels of the stack that came in, labels of the stack that went out
+abbrev pub extended_mpls : Shape
+extended_mpls = structure (agent_address then array word then array word then end)
+
+-- source, destination
+abbrev pub extended_nat : Shape
+extended_nat = structure (agent_address then agent_address then end)
+
 abbrev pub flow_table : Table
 flow_table =
     row 1 raw_header (
@@ -56,7 +72,11 @@ flow_table =
     row 4 ipv6_header (
     row 1001 extended_switch (
     row 1002 extended_router (
-    row 1003 extended_gateway empty))))))
+    row 1003 extended_gateway (
+    row 1004 extended_user (
+    row 1005 extended_url (
+    row 1006 extended_mpls (
+    row 1007 extended_nat empty))))))))))
 
 -- ---- counter records
 
@@ -82,11 +102,16 @@ ethernet_counters = structure (
 abbrev pub vlan_counters : Shape
 vlan_counters = structure (word then hyper then word then word then word then word then end)
 
+-- CPU load over 5 seconds, 1 minute and 5 minutes, total memory, free memory
+abbrev pub processor_counters : Shape
+processor_counters = structure (word then word then word then hyper then hyper then end)
+
 abbrev pub counter_table : Table
 counter_table =
     row 1 interface_counters (
     row 2 ethernet_counters (
-    row 5 vlan_counters empty))
+    row 5 vlan_counters (
+    row 1001 processor_counters empty)))
 
 -- ---- samples
 

@@ -7,6 +7,8 @@ mod captures;
 mod examples;
 mod failed;
 mod fault;
+mod further_examples;
+mod further_formats;
 mod grammar_laws;
 mod input_kind;
 mod limits;
@@ -20,6 +22,8 @@ pub use captures::{
 pub use examples::{datagrams_with_samples, datagrams_without_samples};
 pub use failed::Failed;
 pub use fault::{Fault, FaultKind};
+pub use further_examples::datagrams_with_further_records;
+pub use further_formats::{datagrams_without_further_records, other_formats_are_read_as_before};
 pub use grammar_laws::{
     faults_stand_within_the_bytes, one_head_of_a_datagram, one_reading_of_a_datagram,
     one_reading_of_a_front, one_reading_of_a_whole, reading_finds_what_is_there,

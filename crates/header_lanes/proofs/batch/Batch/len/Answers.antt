@@ -1,5 +1,5 @@
 use Rattle.std.proofs.Common.{ap, ◌∙◌, sym, length, arith}
-use Rattle.header_lanes.specs.Batches.{owed}
+use Rattle.header_lanes.specs.Slots.{owed}
 use Rattle.header_lanes.proofs.Slots.{all_held}
 use Rattle.header_lanes.proofs.batch.Batch.len.Goals as goal
 

@@ -1,5 +1,5 @@
 use Rattle.std.proofs.Common.{ap₂, ◌∙◌, ◌++◌, ◌∷◌, [], arith}
-use Rattle.header_lanes.specs.Batches.{owed}
+use Rattle.header_lanes.specs.Slots.{owed}
 use Rattle.header_lanes.proofs.Slots.{one_more}
 use Rattle.header_lanes.proofs.batch.Batch.push.Goals as goal
 

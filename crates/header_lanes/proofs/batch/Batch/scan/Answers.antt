@@ -2,7 +2,7 @@ use Rattle.std.proofs.Common.{ap, ◌∙◌, sym, map, set, arith}
 use Rattle.std.proofs.lemmas.List.{get_or-map, length-map}
 use Rattle.header_lanes.specs.declared.header.Kind.TheVariants.{Unscanned}
 use Rattle.header_lanes.specs.Numbers.{bare}
-use Rattle.header_lanes.specs.Batches.{owed}
+use Rattle.header_lanes.specs.Slots.{owed}
 use Rattle.header_lanes.proofs.Slots.{one_written}
 use Rattle.header_lanes.proofs.batch.Batch.scan.Goals as goal
 

@@ -1,4 +1,4 @@
-use Rattle.std.proofs.Common.{◌≡◌, ◌+◌, ◌*◌, ◌^◌, ◌<◌, ℕ, List, [], ◌∷◌, to_z, of_z, refl, sym, subst, ap, ◌∙◌, rules, arith}
+use Rattle.std.proofs.Common.{◌≡◌, ◌+◌, ◌*◌, ◌^◌, ◌<◌, ℕ, refl, sym, subst, ap, ◌∙◌, rules, arith}
 use Rattle.std.specs.Int.{w128}
 use Rattle.std.proofs.lemmas.Int.{to_z-of_z}
 use mir.Val.{SFits}
@@ -8,7 +8,6 @@ use Rattle.if_ledger.specs.Records.{counters_in}
 use Rattle.if_ledger.specs.Counters.{greatest_after, least_after, rises_after, AreAtMost}
 use Rattle.if_ledger.specs.Ledgers.{IfState, place_in}
 use Rattle.if_ledger.specs.Fields.{if_state}
-use Rattle.if_ledger.specs.declared.rises.Rises.{Rises}
 use Rattle.if_ledger.proofs.Entering.{run-begins, run-goes}
 use Rattle.if_ledger.proofs.ledger.IfLedger.enter.Goals as goal
 

@@ -5,7 +5,8 @@ use Rattle.wire_spec.specs.Spelling.{spell, spell_all, padded}
 use Rattle.data_format.specs.Addresses.{address_of}
 use Rattle.as_paths.specs.Paths.{segment_tree, segment_trees}
 use Rattle.as_paths.specs.WordLists.{word_trees}
-use Rattle.rec_extended.proofs.Bodies.{unpadded, gateway_fields}
+use Rattle.as_paths.proofs.WordSpellings.{unpadded}
+use Rattle.rec_extended.proofs.Bodies.{gateway_fields}
 use Rattle.as_paths.proofs.Arrays.{count-trees}
 use Rattle.rec_extended.proofs.gateway.GatewayRec.items.Goals as goal
 

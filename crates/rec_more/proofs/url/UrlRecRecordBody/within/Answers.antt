@@ -1,0 +1,13 @@
+use Rattle.wire_spec.specs.Fails.{Remaining}
+use Rattle.wire_spec.specs.Tables.{extended_url}
+use Rattle.data_format.proofs.Records.{record_spelled}
+use Rattle.rec_more.specs.Contents.{url_content}
+use Rattle.rec_more.proofs.Slices.{given_texts}
+use Rattle.rec_more.proofs.url.UrlRecRecordBody.within.Goals as goal
+
+pub returns-clause-slices : goal.returns-clause-slices
+returns-clause-slices c =
+    let p = c.args.pad in
+    let b : Remaining = record { at = c.args.at; bytes = c.args.body.now } in
+    let r = c.fields.result in
+    given_texts p b.bytes r (record_spelled url_content extended_url p b r c.fields.ensures.bytes c.fields.ensures.exact)

@@ -1,0 +1,3 @@
+mod Partway
+pub mod Feedings
+mod Greatest

@@ -1,0 +1,27 @@
+use Rattle.std.proofs.Common.{subst, ◌∙◌}
+use Rattle.std.proofs.lemmas.Result.{err_from_is_err_and}
+use Rattle.sflow_io.specs.Seen.{Takes, TakesPart, WritesAll}
+use Rattle.sflow_io.proofs.Prefixes.{prefix_longer, prefix_after, writes_after}
+use Rattle.sflow_io.proofs.item_writer.write_known.Goals as goal
+
+pub returns-in_err-write_all : goal.returns-in_err-write_all
+returns-in_err-write_all g c =
+    let failed = err_from_is_err_and c.from_residual.result c.from_residual.ensures.1 in
+    let head = c.as_slice.ensures ∙ c.head_of.ensures in
+    rw failed.1 (prefix_longer _ _ _ _ (subst (TakesPart _ _) head c.in_err-write_all.ensures))
+
+pub returns-in_err-write_all-2 : goal.returns-in_err-write_all-2
+returns-in_err-write_all-2 g c =
+    let failed =
+    err_from_is_err_and c.from_residual-in_err-write_all-2.result c.from_residual-in_err-write_all-2.ensures.1 in
+    let head = c.as_slice.ensures ∙ c.head_of.ensures in
+    rw failed.1
+    (prefix_after _ _ _ _ _ (subst (Takes _ _) head c.in_ok-write_all.ensures)
+    (prefix_longer _ _ _ _ c.in_err-write_all-2.ensures))
+
+pub returns : goal.returns
+returns g c =
+    let head = c.as_slice.ensures ∙ c.head_of.ensures in
+    let last = c.as_slice-2.ensures ∙ c.word_of.ensures in
+    writes_after _ _ _ _ _ _ (subst (Takes _ _) head c.in_ok-write_all.ensures)
+    (writes_after _ _ _ _ _ _ c.in_ok-write_all-2.ensures (subst (WritesAll _ _ _) last c.write_all-3.ensures))
