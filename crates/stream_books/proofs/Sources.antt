@@ -1,5 +1,5 @@
 -- What is kept of a source has as many samples as the boots that it stands for, and is of no later boot than theirs.
-use Rattle.std.proofs.Common.{◌≡◌, ℕ, ◌≤◌, List, [], ◌∷◌, length, arith}
+use Rattle.std.proofs.Common.{◌≡◌, ◌≤◌, List, [], ◌∷◌, length, arith}
 use Rattle.std.specs.List.{sum_by}
 use Rattle.books_spec.specs.SourceViews.{PlacedReading}
 use Rattle.source_ledger.specs.Numbers as numbers
