@@ -140,9 +140,9 @@ impl StreamTable {
     }
 
     /// Takes a datagram of a stream, with its arrival and its uptime in ms and its sequence number: `None` exactly
-    /// where the stream is new and there is no room, else what is answered of it, its place, its boot and its number. The windows
-    /// have this width, from 1 to 8,192; the boot marks of one boot may differ by the slack, in ms. Fewer than 2^62
-    /// datagrams of each stream were taken before.
+    /// where the stream is new and there is no room, else what is answered of it, its place, its boot and its number.
+    /// The windows have this width, from 1 to 8,192; the boot marks of one boot may differ by the slack, in ms. Fewer
+    /// than 2^62 datagrams of each stream were taken before.
     pub fn take(
         &mut self,
         key: StreamKey,
