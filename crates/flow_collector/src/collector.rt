@@ -207,10 +207,7 @@ impl Collector {
             kind: shown.kind,
             source: shown.source,
         };
-        let at = SamplePlace {
-            datagram: found.receipt.number,
-            index,
-        };
+        let at = place_at(found, index);
         let width = self.limits.sample_width;
         let entered = self
             .sources
@@ -320,6 +317,16 @@ fn first_of(first: Option<FirstFault>, entry: u64, fault: &Fault) -> Option<Firs
             entry,
             fault: *fault,
         }),
+    }
+}
+
+// Where the sample of this index stands of a datagram that was taken so.
+fn place_at(found: &TakenAt, index: u32) -> SamplePlace
+    ensures { result ≡ record { datagram = found.now.receipt.number; index = index } }
+{
+    SamplePlace {
+        datagram: found.receipt.number,
+        index,
     }
 }
 

@@ -1,6 +1,7 @@
 use Rattle.std.proofs.Common.{◌≡◌, ◌∙◌, ℕ, ◌+◌, ◌≤◌, Bool, true, false, if◌then◌else◌, ◌∷◌, length, refl, sym, ap, subst, arith}
 use Rattle.std.specs.Option.{is_some}
 use Rattle.books_spec.specs.declared.limits.Limits.{Limits}
+use Rattle.books_spec.specs.declared.sample_place.SamplePlace.{SamplePlace}
 use Rattle.books_spec.specs.Items.{Of, Datagram, Got, stream_of}
 use Rattle.books_spec.specs.Books.{listed_streams, stream_boots}
 use Rattle.collector_tables.specs.declared.keys.SourceKey.{SourceKey}
@@ -65,10 +66,11 @@ returns c = record {
       let P : CollectorState → Type 0 = λ t. StandsFor t l (Got d ∷ items) in
       let key : SourceKey =
       record { stream = c.args.found.now.place; kind = c.args.shown.kind; source = c.args.shown.source } in
-      let step : EnterStep s.sources.entries c.enter-entered.new.self.entries key
-      (reading_at c.args.found.now c.args.index c.args.shown.reading) c.args.found.now.boot
-      (is_some c.enter-entered.result) s.sources.limit s.limits.sample_width =
-      record { stands = c.enter-entered.ensures.stands; counted = c.enter-entered.ensures.counted } in
+      let E : SamplePlace → Type 0 = λ place. EnterStep s.sources.entries c.enter-entered.new.self.entries key
+      (record { place = place; reading = c.args.shown.reading }) c.args.found.now.boot
+      (is_some c.enter-entered.result) s.sources.limit s.limits.sample_width in
+      let step : E (reading_at c.args.found.now c.args.index c.args.shown.reading).place = subst E c.place_at-at.ensures
+      (record { stands = c.enter-entered.ensures.stands; counted = c.enter-entered.ensures.counted }) in
       enters-stands s l items d c.args.found.now c.args.index key c.args.shown.reading c.enter-entered.new.self
       (is_some c.enter-entered.result) _ refl same enters step (ap (λ n. s.totals.unlisted_samples + n)
       (c.none_count.ensures ∙ ap (λ b. if b then 0 else 1) c.is_some.ensures)) c.enter-entered.ensures.limit
@@ -84,10 +86,11 @@ invariant_of-self c =
     let d : Datagram = mid.datagram in
     let key : SourceKey =
     record { stream = c.args.found.now.place; kind = c.args.shown.kind; source = c.args.shown.source } in
-    let step : EnterStep s.sources.entries c.enter-entered.new.self.entries key
-    (reading_at c.args.found.now c.args.index c.args.shown.reading) c.args.found.now.boot
-    (is_some c.enter-entered.result) s.sources.limit s.limits.sample_width =
-    record { stands = c.enter-entered.ensures.stands; counted = c.enter-entered.ensures.counted } in
+    let E : SamplePlace → Type 0 = λ place. EnterStep s.sources.entries c.enter-entered.new.self.entries key
+    (record { place = place; reading = c.args.shown.reading }) c.args.found.now.boot
+    (is_some c.enter-entered.result) s.sources.limit s.limits.sample_width in
+    let step : E (reading_at c.args.found.now c.args.index c.args.shown.reading).place = subst E c.place_at-at.ensures
+    (record { stands = c.enter-entered.ensures.stands; counted = c.enter-entered.ensures.counted }) in
     let longer = length-last d.samples (Of (id_shown c.args.shown) c.args.shown.reading) in
     let count = mid.index_is in
     let room = mid.few_entries in

@@ -3,10 +3,10 @@ use Rattle.std.proofs.Common.{length}
 use Rattle.flow_collector.proofs.SoFar.{SoFar}
 use Rattle.flow_collector.proofs.collector.Collector.enter_samples.Given as goal
 
-abbrev pub invariant-loop-index : goal.invariant-loop-index
-invariant-loop-index l = record {
+abbrev pub invariant-loop-head : goal.invariant-loop-head
+invariant-loop-head l = record {
   so_far : SoFar l.initial.self l.self l.initial.found.now l.index l.initial.samples l.samples;
 }
 
-abbrev pub decreases-loop-index : goal.decreases-loop-index
-decreases-loop-index l = length l.samples
+abbrev pub decreases-loop-head : goal.decreases-loop-head
+decreases-loop-head l = length l.samples
