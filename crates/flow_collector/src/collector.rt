@@ -125,6 +125,7 @@ impl Collector {
         };
         if is_entered(found.receipt.taken) {
             self.enter_samples(&found, datagram.samples());
+            return found.receipt.taken;
         }
         found.receipt.taken
     }

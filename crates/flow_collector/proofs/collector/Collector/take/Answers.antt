@@ -66,8 +66,8 @@ returns-then-is_entered-clause-answer c = λ l items st.
 
 -- ---- one of a listed stream that isn't
 
-pub returns-else-is_entered-clause-stands : goal.returns-else-is_entered-clause-stands
-returns-else-is_entered-clause-stands c = λ l items few st.
+pub returns-clause-stands : goal.returns-clause-stands
+returns-clause-stands c = λ l items few st.
     let key = key-stream c.args.at c.args.datagram.now c.head-head.result c.head-head.ensures in
     let at = is-at c.args.at c.args.datagram.now c.head-head.result c.head-head.ensures in
     let d : Datagram = datagram_at c.args.at c.args.datagram.now in
@@ -77,8 +77,8 @@ returns-else-is_entered-clause-stands c = λ l items few st.
     (passes c.take_head.new.self l items d c.in-Some.found.receipt.taken (sym c.is_entered.ensures ∙ c.if-is_entered.false) answer
     (c.take_head.ensures.stands l items d key at st))
 
-pub returns-else-is_entered-clause-answer : goal.returns-else-is_entered-clause-answer
-returns-else-is_entered-clause-answer c = λ l items st.
+pub returns-clause-answer : goal.returns-clause-answer
+returns-clause-answer c = λ l items st.
     let s : CollectorState = collector_state c.self.inside in
     let S : CollectorState → Type 0 = λ t. StandsFor t l items in
     let key = key-stream c.args.at c.args.datagram.now c.head-head.result c.head-head.ensures in
