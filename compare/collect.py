@@ -19,12 +19,17 @@ class Window:
         self.width, self.counted, self.repeated, self.late = width, {}, 0, 0
         self.rises = [0, 0]
 
+    def number(self, mark):
+        """The integer that the mark stands for, nearest to the greatest one that was counted."""
+        top = max(self.counted)
+        return top - WORD // 2 + (mark - top + WORD // 2) % WORD
+
     def enter(self, mark, *values):
         if not self.counted:
             self.counted[mark] = values
             return True
         top, least = max(self.counted), min(self.counted)
-        number = top - WORD // 2 + (mark - top + WORD // 2) % WORD
+        number = self.number(mark)
         if number <= top - self.width:
             self.late += 1
             return False
@@ -49,8 +54,9 @@ class Window:
         return [issued, received, pending, issued - received - pending, self.repeated, self.late]
 
 
-def summed(boots):
-    rows = [boot.figures(place + 1 < len(boots)) for place, boot in enumerate(boots)]
+def summed(windows, is_open=True):
+    """The figures of these windows, of which all but the last are closed, and the last too unless it is open."""
+    rows = [window.figures(place + 1 < len(windows) or not is_open) for place, window in enumerate(windows)]
     names = ("issued", "received", "pending", "lost", "repeated", "late")
     return " ".join(f"{name} {sum(row[place] for row in rows)}" for place, name in enumerate(names))
 
@@ -74,25 +80,45 @@ class Stream:
         return self.boots[-1].enter(sequence, mark)
 
 
+class Generation:
+    """The samples of a source between two resets, with the places of the first one and of the greatest counted one."""
+
+    def __init__(self, width, place):
+        self.window, self.opened, self.newest = Window(width), place, place
+
+
 class Source:
-    """Its windows stand beside the boots of its stream; those in which it has no sample are empty."""
+    """Its generations stand beside the boots of its stream; where it has no sample in a boot there is none."""
 
     def __init__(self, number, stream, name, flow, width):
-        self.number, self.stream, self.name, self.flow, self.width, self.boots = number, stream, name, flow, width, []
+        self.number, self.stream, self.name, self.flow, self.width = number, stream, name, flow, width
+        self.stale, self.boots = 0, []
 
-    def windows(self):
+    def generations(self):
         while len(self.boots) < len(self.stream.boots):
-            self.boots.append(Window(self.width))
-        return self.boots
+            self.boots.append([])
+        return self.boots[-1]
+
+    def enter(self, place, mark, *values):
+        current = self.generations()
+        if not current or current[-1].newest < place and current[-1].window.number(mark) <= max(current[-1].window.counted):
+            current.append(Generation(self.width, place))
+        elif len(current) > 1 and place < current[-1].opened:
+            self.stale += 1
+            return
+        if current[-1].window.enter(mark, *values):
+            current[-1].newest = max(current[-1].newest, place)
 
     def line(self):
-        boots = self.windows()
-        line = f"source {self.number} {'flow' if self.flow else 'counters'} {self.name} {summed(boots)}"
+        is_open = bool(self.generations())
+        windows = [generation.window for boot in self.boots for generation in boot]
+        line = (f"source {self.number} {'flow' if self.flow else 'counters'} {self.name} generations {len(windows)} "
+                f"{summed(windows, is_open)} stale {self.stale}")
         if not self.flow:
             return line
-        pool, drops = (sum(boot.rises[place] for boot in boots) for place in (0, 1))
-        last = [boot for boot in boots if boot.counted][-1]
-        return f"{line} pool {pool} drops {drops} rate {last.counted[max(last.counted)][2]}"
+        pool, drops = (sum(window.rises[place] for window in windows) for place in (0, 1))
+        counted = windows[-1].counted
+        return f"{line} pool {pool} drops {drops} rate {counted[max(counted)][2]}"
 
 
 def main():
@@ -115,9 +141,10 @@ def main():
         stream = streams.setdefault(key, Stream(key, datagram_width, slack))
         if not stream.takes(arrival, int(words[8]), int(words[6])):
             continue
-        for line in lines:
-            if line.startswith("  "):
-                continue
+        # A sample stands at the number of its datagram and at its index among all samples of the datagram.
+        number_of_datagram = stream.boots[-1].number(int(words[6]))
+        samples = [line for line in lines if not line.startswith("  ")]
+        for index, line in enumerate(samples):
             words = line.split()
             if words[0] == "sample":
                 total["other"] += 1
@@ -130,7 +157,7 @@ def main():
             number = list(streams).index(key) + 1
             source = sources.setdefault(name, Source(number, stream, words[4], flow, sample_width))
             shown = [int(words[place]) for place in (8, 10, 6)] if flow else []
-            source.windows()[-1].enter(int(words[2]), *shown)
+            source.enter((number_of_datagram, index), int(words[2]), *shown)
     for number, stream in enumerate(streams.values(), 1):
         agent, sub_agent = stream.name
         print(f"stream {number} agent {agent} sub {sub_agent} boots {len(stream.boots)} {summed(stream.boots)}",

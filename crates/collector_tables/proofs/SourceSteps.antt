@@ -2,11 +2,10 @@
 use Rattle.std.proofs.Common.{◌≡◌, ℕ, zero, suc, ◌+◌, ◌<◌, ◌≤◌, true, false, cond, Some, List, [], ◌∷◌, ◌++◌, map, length, add-zero, sym, ap, subst, ◌∙◌}
 use Rattle.std.specs.Prelude.{slice_get}
 use Rattle.indexmap.specs.IndexMap.{set_value_at}
-use Rattle.count_spec.specs.Windows.{answer, counted}
-use Rattle.count_spec.specs.declared.entered.Entered.{Entered}
+use Rattle.books_spec.specs.declared.booked.Booked.{Booked}
+use Rattle.books_spec.specs.Generations.{booked}
 use Rattle.books_spec.specs.Items.{Stream, Source}
-use Rattle.books_spec.specs.declared.reading.SampleReading.{SampleReading}
-use Rattle.books_spec.specs.Books.{mark_in}
+use Rattle.books_spec.specs.SourceViews.{PlacedReading, place_in, placed_mark}
 use Rattle.books_spec.specs.Listing.{same_source, among, listed, unlisted, first_arrivals, AreDistinct}
 use Rattle.books_spec.proofs.Listings.{listed-known, listed-new, listed-full, listed-all, listed-distinct, unlisted-known, unlisted-new, unlisted-full, unlisted-room}
 use Rattle.books_spec.proofs.Keys.{source-same}
@@ -32,28 +31,28 @@ places-set count (e ∷ more) zero v all = all
 places-set count (e ∷ more) (suc n) v all = (all.0, places-set count more n v all.1)
 
 module _ (streams : List Stream) (limit width : ℕ) (entries : List (SourceKey × SourceRecord)) (arrived : List Source)
-    (boots_of : Source → List (List SampleReading)) (source : Source) (r : SampleReading) where
+    (boots_of : Source → List (List PlacedReading)) (source : Source) (r : PlacedReading) where
   goes-on : (t : Source) (s : SourceRecord) → same_source source t ≡ false
       → SourceStands width boots_of t s → SourceStands width (after_reading source r boots_of) t s
   goes-on t s other st = record {
     kind = st.kind;
     width_is = st.width_is;
-    stands = let P : List (List SampleReading) → Type 0 = λ bs. StandsFor s bs in
+    stands = let P : List (List PlacedReading) → Type 0 = λ bs. StandsFor s bs in
         subst P (ap (λ b. cond b (with_reading r (boots_of t)) (boots_of t)) (sym other)) st.stands;
   }
 
   -- what came of the source itself
-  this-source : (s : SourceRecord) (current : List SampleReading) (closed : List (List SampleReading))
+  this-source : (s : SourceRecord) (current : List PlacedReading) (closed : List (List PlacedReading))
       → boots_of source ≡ current ∷ closed → StandsFor s ((r ∷ current) ∷ closed)
       → StandsFor s (after_reading source r boots_of source)
   this-source s current closed is st =
-      let P : List (List SampleReading) → Type 0 = λ bs. StandsFor s bs in
+      let P : List (List PlacedReading) → Type 0 = λ bs. StandsFor s bs in
       subst P (sym (ap (λ b. cond b (with_reading r (boots_of source)) (boots_of source)) (source-same.self source)
       ∙ ap (with_reading r) is)) st
 
   -- a reading of the source at a place
-  pub known-stands : (place : ℕ) (k : SourceKey) (was now : SourceRecord) (given : Entered) (boot : ℕ) (current : List SampleReading)
-      (closed : List (List SampleReading)) → slice_get entries place ≡ Some (k, was) → source_in streams k ≡ source
+  pub known-stands : (place : ℕ) (k : SourceKey) (was now : SourceRecord) (given : Booked) (boot : ℕ) (current : List PlacedReading)
+      (closed : List (List PlacedReading)) → slice_get entries place ≡ Some (k, was) → source_in streams k ≡ source
       → boots_of source ≡ current ∷ closed → length closed + 1 ≡ boot → Enters boot r was now given
       → SourcesStand streams limit width entries arrived boots_of
       → SourcesStand streams limit width (set_value_at entries place now) (source ∷ arrived) (after_reading source r boots_of)
@@ -65,7 +64,7 @@ module _ (streams : List Stream) (limit width : ℕ) (entries : List (SourceKey 
       let own_stands = subst Own this (each-at (source_in streams) (SourceStands width boots_of) entries place k was at st.table.each) in
       let D : List Source → Type 0 = λ keys. AreDistinct same_source keys in
       let distinct = subst D (sym st.table.keys_are) (listed-distinct same_source source-same limit arrived) in
-      let B : List (List SampleReading) → Type 0 = λ bs. StandsFor was bs in
+      let B : List (List PlacedReading) → Type 0 = λ bs. StandsFor was bs in
       let New : Source → Type 0 = λ x. SourceStands width (after_reading source r boots_of) x now in
       record {
         placed = places-set (length streams) entries place now st.placed;
@@ -96,8 +95,8 @@ module _ (streams : List Stream) (limit width : ℕ) (entries : List (SourceKey 
   length-of st = sym (keys-length (source_in streams) same_source entries) ∙ ap length st.table.keys_are
 
   -- a reading of a source that is listed now
-  pub new-stands : (k : SourceKey) (was now : SourceRecord) (given : Entered) (boot : ℕ) (current : List SampleReading)
-      (closed : List (List SampleReading)) → among same_source (keys_in (source_in streams) entries) source ≡ false
+  pub new-stands : (k : SourceKey) (was now : SourceRecord) (given : Booked) (boot : ℕ) (current : List PlacedReading)
+      (closed : List (List PlacedReading)) → among same_source (keys_in (source_in streams) entries) source ≡ false
       → length entries < limit → source_in streams k ≡ source → boots_of source ≡ current ∷ closed
       → length closed + 1 ≡ boot → is_flow was ≡ source.id.flow → width_of was ≡ width
       → StandsFor was (current ∷ closed) → Enters boot r was now given → k.stream < length streams
@@ -144,26 +143,26 @@ module _ (streams : List Stream) (limit width : ℕ) (entries : List (SourceKey 
       }
 
   -- what is answered to a reading of the source at a place, and of one that is listed now
-  pub known-answer : (place : ℕ) (k : SourceKey) (was now : SourceRecord) (given : Entered) (boot : ℕ)
-      (current : List SampleReading) (closed : List (List SampleReading)) → slice_get entries place ≡ Some (k, was)
+  pub known-answer : (place : ℕ) (k : SourceKey) (was now : SourceRecord) (given : Booked) (boot : ℕ)
+      (current : List PlacedReading) (closed : List (List PlacedReading)) → slice_get entries place ≡ Some (k, was)
       → source_in streams k ≡ source → boots_of source ≡ current ∷ closed → length closed + 1 ≡ boot
       → Enters boot r was now given → SourcesStand streams limit width entries arrived boots_of
-      → given ≡ answer width (counted width (map mark_in current)) r.sequence
+      → given ≡ booked place_in placed_mark width current r
   known-answer place k was now given boot current closed at this is number enters st =
       let Own : Source → Type 0 = λ x. SourceStands width boots_of x was in
       let own_stands = subst Own this
       (each-at (source_in streams) (SourceStands width boots_of) entries place k was at st.table.each) in
-      let B : List (List SampleReading) → Type 0 = λ bs. StandsFor was bs in
+      let B : List (List PlacedReading) → Type 0 = λ bs. StandsFor was bs in
       enters.answered current closed number (subst B is own_stands.stands)
-      ∙ ap (λ w. answer w (counted w (map mark_in current)) r.sequence) own_stands.width_is
+      ∙ ap (λ w. booked place_in placed_mark w current r) own_stands.width_is
 
-  pub new-answer : (was now : SourceRecord) (given : Entered) (boot : ℕ) (current : List SampleReading)
-      (closed : List (List SampleReading)) → length closed + 1 ≡ boot → width_of was ≡ width
+  pub new-answer : (was now : SourceRecord) (given : Booked) (boot : ℕ) (current : List PlacedReading)
+      (closed : List (List PlacedReading)) → length closed + 1 ≡ boot → width_of was ≡ width
       → StandsFor was (current ∷ closed) → Enters boot r was now given
-      → given ≡ answer width (counted width (map mark_in current)) r.sequence
+      → given ≡ booked place_in placed_mark width current r
   new-answer was now given boot current closed number width_is opened enters =
       enters.answered current closed number opened
-      ∙ ap (λ w. answer w (counted w (map mark_in current)) r.sequence) width_is
+      ∙ ap (λ w. booked place_in placed_mark w current r) width_is
 
   pub known-count : (place : ℕ) (k : SourceKey) (was : SourceRecord) → slice_get entries place ≡ Some (k, was)
       → source_in streams k ≡ source → SourcesStand streams limit width entries arrived boots_of

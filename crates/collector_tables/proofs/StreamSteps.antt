@@ -11,8 +11,10 @@ use Rattle.books_spec.specs.declared.taken.Taken.TheVariants.{Unlisted}
 use Rattle.books_spec.proofs.Listings.{symmetric, listed-known, listed-new, listed-full, listed-all, listed-distinct, first_arrivals-all}
 use Rattle.books_spec.proofs.Entered.{own-none}
 use Rattle.books_spec.proofs.Keys.{stream-same}
+use Rattle.stream_books.specs.Receipts.{receipt_at, receipt_in}
 use Rattle.stream_books.specs.Streams.{StreamState, StandsFor, IsAt}
-use Rattle.books_spec.specs.declared.taken.Taken.{Taken}
+use Rattle.stream_books.proofs.Receipts.{receipt-taken}
+use Rattle.stream_books.specs.declared.taken.Receipt.{Receipt}
 use Rattle.collector_tables.specs.declared.keys.StreamKey.{StreamKey}
 use Rattle.collector_tables.specs.Keys.{stream_in}
 use Rattle.collector_tables.specs.Tables.{keys_in}
@@ -49,11 +51,11 @@ module _ (l : Limits) (entries : List (StreamKey × StreamState)) (items : List 
       (ap (among same_stream (keys_in stream_in entries)) (sym this) ∙ among-at stream_in same_stream stream-same entries place k was at)
 
   -- a datagram of the stream at a place
-  pub known-stands : (place : ℕ) (k : StreamKey) (was now : StreamState) (arrival uptime sequence : ℕ) (answer : Taken)
+  pub known-stands : (place : ℕ) (k : StreamKey) (was now : StreamState) (arrival uptime sequence : ℕ) (given : Receipt)
       → slice_get entries place ≡ Some (k, was) → stream_in k ≡ stream_of d → IsAt d arrival uptime sequence
-      → Takes l.boot_slack arrival uptime sequence was now answer → StreamsStand l entries items
+      → Takes l.boot_slack arrival uptime sequence was now given → StreamsStand l entries items
       → StreamsStand l (set_value_at entries place now) (Got d ∷ items)
-  known-stands place k was now arrival uptime sequence answer at this is takes st =
+  known-stands place k was now arrival uptime sequence given at this is takes st =
       let there = listed-at place k was at this st in
       let own_stands = each-at stream_in (StreamStands l items) entries place k was at st.each in
       let D : List Stream → Type 0 = λ keys. AreDistinct same_stream keys in
@@ -74,22 +76,27 @@ module _ (l : Limits) (entries : List (StreamKey × StreamState)) (items : List 
             st.each;
       }
 
-  pub known-answer : (place : ℕ) (k : StreamKey) (was now : StreamState) (arrival uptime sequence : ℕ) (answer : Taken)
+  pub known-answer : (place : ℕ) (k : StreamKey) (was now : StreamState) (arrival uptime sequence : ℕ) (given : Receipt)
       → slice_get entries place ≡ Some (k, was) → stream_in k ≡ stream_of d → IsAt d arrival uptime sequence
-      → Takes l.boot_slack arrival uptime sequence was now answer → StreamsStand l entries items
-      → answer ≡ taken_now l items (Got d)
-  known-answer place k was now arrival uptime sequence answer at this is takes st =
+      → Takes l.boot_slack arrival uptime sequence was now given → StreamsStand l entries items
+      → (given.taken ≡ taken_now l items (Got d)) × (given.number
+      ≡ (receipt_in l.boot_slack l.datagram_width (stream_boots l (stream_of d) items) d).number)
+  known-answer place k was now arrival uptime sequence given at this is takes st =
       let there = listed-at place k was at this st in
       let still : among same_stream (listed_streams l (Got d ∷ items)) (stream_of d) ≡ true =
       ap (λ keys. among same_stream keys (stream_of d))
       (listed-known same_stream l.streams (streams_of items) (stream_of d) there) ∙ there in
       let own_stands = each-at stream_in (StreamStands l items) entries place k was at st.each in
+      let is_given : given ≡ receipt_in l.boot_slack l.datagram_width (stream_boots l (stream_of d) items) d =
       takes.answered d (own (stream_in k) items) is own_stands.stands
-      ∙ (λ j. taken_at (own_stands.width j)
-      (boot_place stamp_of l.boot_slack (own_stands.width j)
-      (boots stamp_of l.boot_slack (own_stands.width j) (own (this j) items)) d)
-      (boots stamp_of l.boot_slack (own_stands.width j) (own (this j) items)) (sym is.2 j))
-      ∙ ap (λ b. cond b (taken_in l (stream_boots l (stream_of d) items) d) Unlisted) (sym still)
+      ∙ (λ j. receipt_in l.boot_slack (own_stands.width j)
+      (boots stamp_of l.boot_slack (own_stands.width j) (own (this j) items)) d) in (
+        ap (λ (r : Receipt). r.taken) is_given
+            ∙ receipt-taken l.datagram_width (boot_place stamp_of l.boot_slack l.datagram_width (stream_boots l (stream_of d) items) d)
+            (stream_boots l (stream_of d) items) d.head.sequence
+            ∙ ap (λ b. cond b (taken_in l (stream_boots l (stream_of d) items) d) Unlisted) (sym still),
+        ap (λ (r : Receipt). r.number) is_given,
+      )
 
   unlisted-in : (k : StreamKey) → among same_stream (keys_in stream_in entries) (stream_in k) ≡ false
       → stream_in k ≡ stream_of d → StreamsStand l entries items
@@ -121,13 +128,13 @@ module _ (l : Limits) (entries : List (StreamKey × StreamState)) (items : List 
       absent false h new = h
 
   -- a datagram of a stream that is listed now
-  pub new-stands : (k : StreamKey) (was now : StreamState) (arrival uptime sequence : ℕ) (answer : Taken)
+  pub new-stands : (k : StreamKey) (was now : StreamState) (arrival uptime sequence : ℕ) (given : Receipt)
       → among same_stream (keys_in stream_in entries) (stream_in k) ≡ false → length entries < l.streams
       → stream_in k ≡ stream_of d → IsAt d arrival uptime sequence
       → was.ledger.marks.width ≡ l.datagram_width → StandsFor l.boot_slack was []
-      → Takes l.boot_slack arrival uptime sequence was now answer → StreamsStand l entries items
+      → Takes l.boot_slack arrival uptime sequence was now given → StreamsStand l entries items
       → StreamsStand l (entries ++ (k, now) ∷ []) (Got d ∷ items)
-  new-stands k was now arrival uptime sequence answer none room this is width opened takes st =
+  new-stands k was now arrival uptime sequence given none room this is width opened takes st =
       let absent = unlisted-in k none this st in
       let empty = nothing-came k none this room st in
       let room_there : length (listed_streams l items) < l.streams =
@@ -150,13 +157,14 @@ module _ (l : Limits) (entries : List (StreamKey × StreamState)) (items : List 
             });
       }
 
-  pub new-answer : (k : StreamKey) (was now : StreamState) (arrival uptime sequence : ℕ) (answer : Taken)
+  pub new-answer : (k : StreamKey) (was now : StreamState) (arrival uptime sequence : ℕ) (given : Receipt)
       → among same_stream (keys_in stream_in entries) (stream_in k) ≡ false → length entries < l.streams
       → stream_in k ≡ stream_of d → IsAt d arrival uptime sequence
       → was.ledger.marks.width ≡ l.datagram_width → StandsFor l.boot_slack was []
-      → Takes l.boot_slack arrival uptime sequence was now answer → StreamsStand l entries items
-      → answer ≡ taken_now l items (Got d)
-  new-answer k was now arrival uptime sequence answer none room this is width opened takes st =
+      → Takes l.boot_slack arrival uptime sequence was now given → StreamsStand l entries items
+      → (given.taken ≡ taken_now l items (Got d)) × (given.number
+      ≡ (receipt_in l.boot_slack l.datagram_width (stream_boots l (stream_of d) items) d).number)
+  new-answer k was now arrival uptime sequence given none room this is width opened takes st =
       let absent = unlisted-in k none this st in
       let empty : own (stream_of d) items ≡ [] =
       ap (λ s. own s items) (sym this) ∙ nothing-came k none this room st in
@@ -166,11 +174,15 @@ module _ (l : Limits) (entries : List (StreamKey × StreamState)) (items : List 
       ap (λ keys. among same_stream keys (stream_of d))
       (listed-new same_stream l.streams (streams_of items) (stream_of d) absent room_there)
       ∙ last (listed_streams l items) in
+      let is_given : given ≡ receipt_in l.boot_slack l.datagram_width (stream_boots l (stream_of d) items) d =
       takes.answered d [] is opened
-      ∙ (λ j. taken_at (width j)
-      (boot_place stamp_of l.boot_slack (width j) (boots stamp_of l.boot_slack (width j) (sym empty j)) d)
-      (boots stamp_of l.boot_slack (width j) (sym empty j)) (sym is.2 j))
-      ∙ ap (λ b. cond b (taken_in l (stream_boots l (stream_of d) items) d) Unlisted) (sym listed_now)
+      ∙ (λ j. receipt_in l.boot_slack (width j) (boots stamp_of l.boot_slack (width j) (sym empty j)) d) in (
+        ap (λ (r : Receipt). r.taken) is_given
+            ∙ receipt-taken l.datagram_width (boot_place stamp_of l.boot_slack l.datagram_width (stream_boots l (stream_of d) items) d)
+            (stream_boots l (stream_of d) items) d.head.sequence
+            ∙ ap (λ b. cond b (taken_in l (stream_boots l (stream_of d) items) d) Unlisted) (sym listed_now),
+        ap (λ (r : Receipt). r.number) is_given,
+      )
     where
       or-true : (b : Bool) → (b || true) ≡ true
       or-true true = refl

@@ -7,4 +7,4 @@ use Rattle.collector_tables.specs.declared.streams.TakenAt.{TakenAt}
 -- none where the stream isn't listed
 abbrev pub answer_in_books : Option TakenAt → Taken
 answer_in_books None = Unlisted
-answer_in_books (Some t) = t.taken
+answer_in_books (Some t) = t.receipt.taken

@@ -1,9 +1,8 @@
-ghost use Rattle.std.specs.Prelude.{◌≡◌, ℕ, ◌+◌, ◌^◌, ◌≤◌, ◌<◌, ◌++◌, false, List, [], ◌∷◌, map, IfOk, IfNone, IfSome, IsTrue, ◌↔◌, Some, slice_get, length, is_some, if◌then◌else◌};
+ghost use Rattle.std.specs.Prelude.{◌≡◌, ℕ, ◌+◌, ◌^◌, ◌≤◌, ◌<◌, ◌++◌, false, List, [], ◌∷◌, IfOk, IfNone, IfSome, IsTrue, ◌↔◌, Some, slice_get, length, is_some, if◌then◌else◌};
 ghost use Rattle.indexmap.specs.IndexMap.{set_value_at};
-ghost use Rattle.count_spec.specs.Windows.{answer, counted};
 ghost use Rattle.books_spec.specs.Items.{Stream, Source};
-ghost use Rattle.books_spec.specs.declared.reading.SampleReading.{SampleReading};
-ghost use Rattle.books_spec.specs.Books.{mark_in};
+ghost use Rattle.books_spec.specs.Generations.{booked};
+ghost use Rattle.books_spec.specs.SourceViews.{PlacedReading, place_in, placed_mark};
 ghost use Rattle.books_spec.specs.Listing.{same_source, among, first_arrivals, unlisted};
 ghost use Rattle.stream_books.specs.Sources.{StandsFor, is_flow, width_of, boot_of, entered_count};
 ghost use Rattle.collector_tables.specs.declared.keys.SourceKey.{SourceKey};
@@ -18,7 +17,7 @@ use indexmap::IndexMap;
 use std::alloc::{AllocError, Global};
 use std::hash::RandomState;
 use std::marker::Model;
-use stream_books::{Entered, SampleReading, SourceRecord};
+use stream_books::{Booked, SamplePlace, SampleReading, SourceRecord};
 
 /// Where a sample was entered, and what was answered.
 #[derive(Clone, Copy, Debug)]
@@ -26,7 +25,7 @@ pub struct EnteredAt {
     /// The place of its source among those listed, from 0 on in order of first arrival.
     pub place: u32,
     /// The answer of the ledger of its source.
-    pub entered: Entered,
+    pub booked: Booked,
 }
 
 /// The sources that are listed, in order of first arrival, in room that was taken at the opening.
@@ -110,33 +109,40 @@ impl SourceTable {
     }
 
     // Enters what a sample of this boot shows into the source at a place.
-    fn enter_at(&mut self, place: usize, boot: u64, reading: SampleReading) -> EnteredAt
+    fn enter_at(
+        &mut self,
+        place: usize,
+        boot: u64,
+        at: SamplePlace,
+        reading: SampleReading,
+    ) -> EnteredAt
         requires place { place < length self.old.entries }
         requires boot_counts { 1 ≤ boot }
         requires ready { (k : SourceKey) (was : SourceRecord) → slice_get self.old.entries place ≡ Some (k, was)
             → (boot_of was ≤ boot) × (entered_count was < 2 ^ 62) }
         ensures now { (k : SourceKey) (was : SourceRecord) → slice_get self.old.entries place ≡ Some (k, was)
             → (now : SourceRecord) × (self.new.entries ≡ set_value_at self.old.entries place now)
-            × Enters boot reading was now result.entered }
+            × Enters boot (record { place = at; reading = reading }) was now result.booked }
         ensures place { result.place ≡ place }
         ensures limit { self.new.limit ≡ self.old.limit }
     {
         let source = &mut self.map[place];
-        let entered = source.enter(boot, reading);
+        let booked = source.enter(boot, at, reading);
         EnteredAt {
             place: place as u32,
-            entered,
+            booked,
         }
     }
 
-    /// Enters what a sample of a source shows, in this boot of its stream, which is that of the last sample or a later
-    /// one; `None` exactly where the source is new and there is no room. The windows have this width, from 1 to 8,192.
-    /// Fewer than 2^62 samples of each source were entered before.
+    /// Enters what a sample of a source shows that stands at this place in this boot of its stream, which is that of
+    /// the last sample or a later one; `None` exactly where the source is new and there is no room. The windows have
+    /// this width, from 1 to 8,192. Fewer than 2^62 samples of each source were entered before.
     pub fn enter(
         &mut self,
         key: SourceKey,
         width: u32,
         boot: u64,
+        at: SamplePlace,
         reading: SampleReading,
     ) -> Option<EnteredAt>
         requires width_from { 1 ≤ width }
@@ -144,23 +150,23 @@ impl SourceTable {
         requires boot_counts { 1 ≤ boot }
         requires ready { (p : ℕ) (was : SourceRecord) → slice_get self.old.entries p ≡ Some (key, was)
             → (boot_of was ≤ boot) × (entered_count was < 2 ^ 62) }
-        ensures stands { (streams : List Stream) (arrived : List Source) (boots_of : Source → List (List SampleReading))
-            (current : List SampleReading) (closed : List (List SampleReading)) → IsPlaced streams key
+        ensures stands { (streams : List Stream) (arrived : List Source) (boots_of : Source → List (List PlacedReading))
+            (current : List PlacedReading) (closed : List (List PlacedReading)) → IsPlaced streams key
             → boots_of (source_in streams key) ≡ current ∷ closed → length closed + 1 ≡ boot
             → (among same_source (first_arrivals same_source arrived) (source_in streams key) ≡ false
             → AreEmpty (current ∷ closed))
             → SourcesStand streams self.old.limit width self.old.entries arrived boots_of
             → SourcesStand streams self.old.limit width self.new.entries (source_in streams key ∷ arrived)
-            (after_reading (source_in streams key) reading boots_of) }
-        ensures answer { (streams : List Stream) (arrived : List Source) (boots_of : Source → List (List SampleReading))
-            (current : List SampleReading) (closed : List (List SampleReading)) → IsPlaced streams key
+            (after_reading (source_in streams key) (record { place = at; reading = reading }) boots_of) }
+        ensures answer { (streams : List Stream) (arrived : List Source) (boots_of : Source → List (List PlacedReading))
+            (current : List PlacedReading) (closed : List (List PlacedReading)) → IsPlaced streams key
             → boots_of (source_in streams key) ≡ current ∷ closed → length closed + 1 ≡ boot
             → (among same_source (first_arrivals same_source arrived) (source_in streams key) ≡ false
             → AreEmpty (current ∷ closed))
             → SourcesStand streams self.old.limit width self.old.entries arrived boots_of
-            → IfSome result (λ r. r.entered
-            ≡ answer width (counted width (map mark_in current)) reading.sequence) }
-        ensures counted { (streams : List Stream) (arrived : List Source) (boots_of : Source → List (List SampleReading))
+            → IfSome result (λ r. r.booked
+            ≡ booked place_in placed_mark width current (record { place = at; reading = reading })) }
+        ensures counted { (streams : List Stream) (arrived : List Source) (boots_of : Source → List (List PlacedReading))
             → IsPlaced streams key → SourcesStand streams self.old.limit width self.old.entries arrived boots_of
             → unlisted same_source self.old.limit (source_in streams key ∷ arrived)
             ≡ unlisted same_source self.old.limit arrived + (if is_some result then 0 else 1) }
@@ -168,12 +174,12 @@ impl SourceTable {
         ensures limit { self.new.limit ≡ self.old.limit }
     {
         if let Some(place) = self.place(&key) {
-            return Some(self.enter_at(place, boot, reading));
+            return Some(self.enter_at(place, boot, at, reading));
         }
         if self.is_full() {
             return None;
         }
-        Some(self.enter_new(key, width, boot, reading))
+        Some(self.enter_new(key, width, boot, at, reading))
     }
 
     // Enters what a sample of this boot shows into a source that isn't listed yet, where there is room.
@@ -182,6 +188,7 @@ impl SourceTable {
         key: SourceKey,
         width: u32,
         boot: u64,
+        at: SamplePlace,
         reading: SampleReading,
     ) -> EnteredAt
         requires width_from { 1 ≤ width }
@@ -192,15 +199,15 @@ impl SourceTable {
         ensures now { (was : SourceRecord) × (now : SourceRecord)
             × (self.new.entries ≡ self.old.entries ++ (key, now) ∷ [])
             × (is_flow was ≡ is_flow_kind key.kind) × (width_of was ≡ width) × StandsFor was []
-            × Enters boot reading was now result.entered }
+            × Enters boot (record { place = at; reading = reading }) was now result.booked }
         ensures place { result.place ≡ length self.old.entries }
         ensures limit { self.new.limit ≡ self.old.limit }
     {
         let place = self.map.len() as u32;
         let mut source = opened(key.kind, width);
-        let entered = source.enter(boot, reading);
+        let booked = source.enter(boot, at, reading);
         self.add(key, source);
-        EnteredAt { place, entered }
+        EnteredAt { place, booked }
     }
 }
 

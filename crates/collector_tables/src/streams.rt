@@ -2,8 +2,9 @@ ghost use Rattle.std.specs.Prelude.{◌≡◌, ℕ, ◌+◌, ◌^◌, ◌≤◌,
 ghost use Rattle.indexmap.specs.IndexMap.{set_value_at};
 ghost use Rattle.books_spec.specs.Items.{Datagram, Item, Got, stream_of};
 ghost use Rattle.books_spec.specs.declared.limits.Limits.{Limits};
-ghost use Rattle.books_spec.specs.Books.{taken_now};
+ghost use Rattle.books_spec.specs.Books.{taken_now, stream_boots};
 ghost use Rattle.books_spec.specs.Listing.{same_stream, among};
+ghost use Rattle.stream_books.specs.Receipts.{receipt_in};
 ghost use Rattle.stream_books.specs.Streams.{StreamState, StandsFor, IsAt};
 ghost use Rattle.collector_tables.specs.declared.keys.StreamKey.{StreamKey};
 ghost use Rattle.collector_tables.specs.Listed.{StreamsStand};
@@ -17,13 +18,13 @@ use indexmap::IndexMap;
 use std::alloc::{AllocError, Global};
 use std::hash::RandomState;
 use std::marker::Model;
-use stream_books::{StreamRecord, Taken};
+use stream_books::{Receipt, StreamRecord};
 
 /// What was answered to a datagram, and where.
 #[derive(Clone, Copy, Debug)]
 pub struct TakenAt {
     /// The answer of what is kept of its stream.
-    pub taken: Taken,
+    pub receipt: Receipt,
     /// The place of its stream among those listed, from 0 on in order of first arrival.
     pub place: u32,
     /// How many boots its stream had by then: the number of the current one.
@@ -124,23 +125,24 @@ impl StreamTable {
             → was.ledger.marks.entered + was.stale < 2 ^ 62 }
         ensures now { (k : StreamKey) (was : StreamState) → slice_get self.old.entries place ≡ Some (k, was)
             → (now : StreamState) × (self.new.entries ≡ set_value_at self.old.entries place now)
-            × Takes slack arrival uptime sequence was now result.taken × (result.boot ≡ now.ledger.boot) }
+            × Takes slack arrival uptime sequence was now result.receipt
+            × (result.boot ≡ now.ledger.boot) }
         ensures place { result.place ≡ place }
         ensures limit { self.new.limit ≡ self.old.limit }
     {
         let stream = &mut self.map[place];
-        let taken = stream.take(slack, arrival, uptime, sequence);
+        let receipt = stream.take(slack, arrival, uptime, sequence);
         TakenAt {
-            taken,
+            receipt,
             place: place as u32,
             boot: stream.boots(),
         }
     }
 
     /// Takes a datagram of a stream, with its arrival and its uptime in ms and its sequence number: `None` exactly
-    /// where the stream is new and there is no room, else what is answered of it, its place and its boot. The windows
-    /// have this width, from 1 to 8,192; the boot marks of one boot may differ by the slack, in ms. Fewer than 2^62
-    /// datagrams of each stream were taken before.
+    /// where the stream is new and there is no room, else what is answered of it, its place, its boot and its number.
+    /// The windows have this width, from 1 to 8,192; the boot marks of one boot may differ by the slack, in ms. Fewer
+    /// than 2^62 datagrams of each stream were taken before.
     pub fn take(
         &mut self,
         key: StreamKey,
@@ -162,6 +164,11 @@ impl StreamTable {
             → l.datagram_width ≡ width → l.boot_slack ≡ slack → stream_in key ≡ stream_of d
             → IsAt d arrival uptime sequence → StreamsStand l self.old.entries items
             → answer_in_books result ≡ taken_now l items (Got d) }
+        ensures number { (l : Limits) (items : List Item) (d : Datagram) → l.streams ≡ self.old.limit
+            → l.datagram_width ≡ width → l.boot_slack ≡ slack → stream_in key ≡ stream_of d
+            → IsAt d arrival uptime sequence → StreamsStand l self.old.entries items
+            → IfSome result (λ r. r.receipt.number
+            ≡ (receipt_in l.boot_slack l.datagram_width (stream_boots l (stream_of d) items) d).number) }
         ensures place { IfSome result (λ r. (k : StreamKey) × (now : StreamState)
             × (slice_get self.new.entries r.place ≡ Some (k, now)) × (stream_in k ≡ stream_in key)
             × (r.boot ≡ now.ledger.boot)) }
@@ -193,15 +200,20 @@ impl StreamTable {
         ensures now { (was : StreamState) × (now : StreamState)
             × (self.new.entries ≡ self.old.entries ++ (key, now) ∷ [])
             × (was.ledger.marks.width ≡ width) × ((slack : ℕ) → StandsFor slack was [])
-            × Takes slack arrival uptime sequence was now result.taken × (result.boot ≡ now.ledger.boot) }
+            × Takes slack arrival uptime sequence was now result.receipt
+            × (result.boot ≡ now.ledger.boot) }
         ensures place { result.place ≡ length self.old.entries }
         ensures limit { self.new.limit ≡ self.old.limit }
     {
         let place = self.map.len() as u32;
         let mut stream = StreamRecord::open(width);
-        let taken = stream.take(slack, arrival, uptime, sequence);
+        let receipt = stream.take(slack, arrival, uptime, sequence);
         let boot = stream.boots();
         self.add(key, stream);
-        TakenAt { taken, place, boot }
+        TakenAt {
+            receipt,
+            place,
+            boot,
+        }
     }
 }

@@ -1,6 +1,7 @@
 -- What is shown, in the words of the books.
 use Rattle.data_format.specs.Addresses.{address_of}
-use Rattle.books_spec.specs.Books.{StreamBooks, SourceBooks}
+use Rattle.books_spec.specs.Books.{StreamBooks}
+use Rattle.books_spec.specs.WholeBooks.{SourceLine}
 use Rattle.collector_views.specs.declared.views.StreamView.{StreamView}
 use Rattle.collector_views.specs.declared.views.SourceView.{SourceView}
 
@@ -12,9 +13,9 @@ stream_shown v = record {
   stale = v.stale;
 }
 
-abbrev pub source_shown : SourceView → SourceBooks
+abbrev pub source_shown : SourceView → SourceLine
 source_shown v = record {
   stream = v.stream;
   id = record { flow = v.flow; class = v.source.class; index = v.source.index };
-  view = v.ledger;
+  view = record { generations = v.generations; ledger = v.ledger; stale = v.stale };
 }

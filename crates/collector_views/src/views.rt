@@ -25,6 +25,10 @@ pub struct SourceView {
     pub flow: bool,
     /// What is sampled or counted.
     pub source: SourceId,
-    /// The numbers of its samples, over the boots of its stream.
+    /// How many generations it had in all boots of its stream: the stretches between restarts and its own resets.
+    pub generations: u64,
+    /// The numbers of its samples, over its generations.
     pub ledger: LedgerView,
+    /// How many of its samples came from a generation before the current one of their boot.
+    pub stale: u64,
 }

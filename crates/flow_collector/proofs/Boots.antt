@@ -4,20 +4,23 @@ use Rattle.std.specs.List.{filter_map}
 use Rattle.count_spec.specs.Windows.{answer, counted}
 use Rattle.count_spec.specs.Boots.{sequences, boot_place, boots}
 use Rattle.count_spec.specs.Stretches.{placed}
+use Rattle.count_spec.specs.declared.entered.Entered as window
+use Rattle.count_spec.specs.declared.entered.Entered.TheVariants as answers
 use Rattle.count_spec.specs.declared.stretch_place.StretchPlace.{StretchPlace}
 use Rattle.count_spec.specs.declared.stretch_place.StretchPlace.TheVariants.{Current, Next, Stale}
 use Rattle.books_spec.specs.Items.{SourceId, Sample, Datagram, stamp_of, Item, Got, stream_of, Source}
-use Rattle.books_spec.specs.declared.reading.SampleReading.{SampleReading}
+use Rattle.books_spec.specs.SourceViews.{PlacedReading}
+use Rattle.books_spec.specs.PlacedSamples.{placed_at, first_placed, placed_reading_of, placed_readings, placed_boots}
 use Rattle.books_spec.specs.declared.limits.Limits.{Limits}
 use Rattle.books_spec.specs.Listing.{same_stream, among}
-use Rattle.books_spec.specs.Books.{listed_streams, own, stream_boots, taken_of, taken_at, taken_in, taken_now, samples_at, onto, entered_in, entered, source_of, sources_of, first_samples, reading_of, readings, source_boots}
+use Rattle.books_spec.specs.Books.{listed_streams, own, stream_boots, taken_of, taken_at, taken_in, taken_now, samples_at, onto, entered_in, entered, source_of, sources_of}
 use Rattle.books_spec.specs.declared.taken.Taken.{Taken}
 use Rattle.books_spec.specs.declared.taken.Taken.TheVariants.{First, Repeat, Late, Unlisted, Spent}
 use Rattle.books_spec.specs.declared.taken.Taken.TheVariants as takes
 use Rattle.books_spec.proofs.Keys.{stream-same}
 use Rattle.stream_books.specs.Sources.{StandsFor}
 use Rattle.stream_books.specs.declared.source.SourceRecord.{SourceRecord}
-use Rattle.collector_tables.proofs.Empties.{boot-passes}
+use Rattle.stream_books.proofs.Sources.{record-passed}
 use Rattle.flow_collector.specs.Steps.{is_first, with_samples}
 use Rattle.flow_collector.proofs.Entering.{place-same, taken-same}
 use Rattle.flow_collector.proofs.Lists.{length-map-all}
@@ -44,38 +47,43 @@ pub sources-none : (l : Limits) (items : List Item) (d : Datagram)
 sources-none l items d = ap (filter_map source_of) (entered-none l items d)
 
 -- boots with one more at most, without an entry
-pub data Grown (old new : List (List SampleReading)) : Type 0 where
+pub data Grown (old new : List (List PlacedReading)) : Type 0 where
   same : new ≡ old → Grown old new
   passed : new ≡ [] ∷ old → Grown old new
 
 -- what stands for boots stands after a boot in which nothing came
-pub grown-stands : (s : SourceRecord) (old new : List (List SampleReading)) → Grown old new → StandsFor s old → StandsFor s new
+pub grown-stands : (s : SourceRecord) (old new : List (List PlacedReading)) → Grown old new → StandsFor s old → StandsFor s new
 grown-stands s old new (same e) st =
-    let P : List (List SampleReading) → Type 0 = λ bs. StandsFor s bs in
+    let P : List (List PlacedReading) → Type 0 = λ bs. StandsFor s bs in
     subst P (sym e) st
 grown-stands s old new (passed e) st =
-    let P : List (List SampleReading) → Type 0 = λ bs. StandsFor s bs in
-    subst P (sym e) (boot-passes s old st)
+    let P : List (List PlacedReading) → Type 0 = λ bs. StandsFor s bs in
+    subst P (sym e) (record-passed s old st)
+
+placed-none : (a : window.Entered) → placed_at a [] ≡ []
+placed-none (answers.First place n) = refl
+placed-none answers.Repeat = refl
+placed-none answers.Late = refl
 
 placed-grown : (w : ℕ) (id : SourceId) (d : Datagram) (p : StretchPlace) (bs : List (List Datagram))
-    → Grown (map (readings w id) bs) (map (readings w id) (placed p (with_samples d []) bs))
+    → Grown (map (placed_readings w id) bs) (map (placed_readings w id) (placed p (with_samples d []) bs))
 placed-grown w id d Current [] = passed (
-    ap (λ xs. filter_map (reading_of id) (onto xs []) ∷ [])
-    (samples-none (taken_of (answer w (counted w []) d.head.sequence))))
+    ap (λ xs. filter_map (placed_reading_of id) (onto xs []) ∷ [])
+    (placed-none (answer w (counted w []) d.head.sequence)))
 placed-grown w id d Current (current ∷ closed) = same (
-    ap (λ xs. filter_map (reading_of id) (onto xs (first_samples w current)) ∷ map (readings w id) closed)
-    (samples-none (taken_of (answer w (counted w (sequences stamp_of current)) d.head.sequence))))
+    ap (λ xs. filter_map (placed_reading_of id) (onto xs (first_placed w current)) ∷ map (placed_readings w id) closed)
+    (placed-none (answer w (counted w (sequences stamp_of current)) d.head.sequence)))
 placed-grown w id d Next bs = passed (
-    ap (λ xs. filter_map (reading_of id) (onto xs []) ∷ map (readings w id) bs)
-    (samples-none (taken_of (answer w (counted w []) d.head.sequence))))
+    ap (λ xs. filter_map (placed_reading_of id) (onto xs []) ∷ map (placed_readings w id) bs)
+    (placed-none (answer w (counted w []) d.head.sequence)))
 placed-grown w id d Stale bs = same refl
 
 pub source-boots-none : (l : Limits) (items : List Item) (d : Datagram) (k : Source)
-    → Grown (source_boots l k items) (source_boots l k (Got (with_samples d []) ∷ items))
+    → Grown (placed_boots l k items) (placed_boots l k (Got (with_samples d []) ∷ items))
 source-boots-none l items d k = go (same_stream k.stream (stream_of d))
   where
-    go : (b : Bool) → Grown (source_boots l k items)
-        (map (readings l.datagram_width k.id) (boots stamp_of l.boot_slack l.datagram_width
+    go : (b : Bool) → Grown (placed_boots l k items)
+        (map (placed_readings l.datagram_width k.id) (boots stamp_of l.boot_slack l.datagram_width
         (cond b (with_samples d [] ∷ own k.stream items) (own k.stream items))))
     go false = same refl
     go true =
@@ -100,28 +108,33 @@ entered-not_first l items d not =
     ∙ ap (λ xs. onto (map (entered_in (stream_of d)) xs) (entered l items))
     (samples-not_first (taken_now l items (Got d)) d.samples not)
 
+placed-at-not_first : (a : window.Entered) (xs : List Sample) → is_first (taken_of a) ≡ false → placed_at a [] ≡ placed_at a xs
+placed-at-not_first (answers.First place n) xs not = absurd (true≢false not)
+placed-at-not_first answers.Repeat xs not = refl
+placed-at-not_first answers.Late xs not = refl
+
 placed-not_first : (w : ℕ) (id : SourceId) (d : Datagram) (p : StretchPlace) (bs : List (List Datagram))
     → is_first (taken_at w p bs d.head.sequence) ≡ false
-    → map (readings w id) (placed p (with_samples d []) bs) ≡ map (readings w id) (placed p d bs)
+    → map (placed_readings w id) (placed p (with_samples d []) bs) ≡ map (placed_readings w id) (placed p d bs)
 placed-not_first w id d Current [] not =
-    ap (λ xs. filter_map (reading_of id) (onto xs []) ∷ [])
-    (samples-not_first (taken_of (answer w (counted w []) d.head.sequence)) d.samples not)
+    ap (λ xs. filter_map (placed_reading_of id) (onto xs []) ∷ [])
+    (placed-at-not_first (answer w (counted w []) d.head.sequence) d.samples not)
 placed-not_first w id d Current (current ∷ closed) not =
-    ap (λ xs. filter_map (reading_of id) (onto xs (first_samples w current)) ∷ map (readings w id) closed)
-    (samples-not_first (taken_of (answer w (counted w (sequences stamp_of current)) d.head.sequence)) d.samples not)
+    ap (λ xs. filter_map (placed_reading_of id) (onto xs (first_placed w current)) ∷ map (placed_readings w id) closed)
+    (placed-at-not_first (answer w (counted w (sequences stamp_of current)) d.head.sequence) d.samples not)
 placed-not_first w id d Next bs not = absurd (true≢false not)
 placed-not_first w id d Stale bs not = refl
 
 pub source-boots-not_first : (l : Limits) (items : List Item) (d : Datagram) (k : Source)
     → among same_stream (listed_streams l (Got d ∷ items)) k.stream ≡ true
     → is_first (taken_now l items (Got d)) ≡ false
-    → source_boots l k (Got (with_samples d []) ∷ items) ≡ source_boots l k (Got d ∷ items)
+    → placed_boots l k (Got (with_samples d []) ∷ items) ≡ placed_boots l k (Got d ∷ items)
 source-boots-not_first l items d k there not = go (same_stream k.stream (stream_of d)) refl
   where
     go : (b : Bool) → same_stream k.stream (stream_of d) ≡ b
-        → map (readings l.datagram_width k.id) (boots stamp_of l.boot_slack l.datagram_width
+        → map (placed_readings l.datagram_width k.id) (boots stamp_of l.boot_slack l.datagram_width
         (cond b (with_samples d [] ∷ own k.stream items) (own k.stream items)))
-        ≡ map (readings l.datagram_width k.id) (boots stamp_of l.boot_slack l.datagram_width
+        ≡ map (placed_readings l.datagram_width k.id) (boots stamp_of l.boot_slack l.datagram_width
         (cond b (d ∷ own k.stream items) (own k.stream items)))
     go false e = refl
     go true e =
@@ -132,7 +145,7 @@ source-boots-not_first l items d k there not = go (same_stream k.stream (stream_
         let answered : taken_now l items (Got d) ≡ taken_in l bs d =
         ap (λ b. cond b (taken_in l (stream_boots l (stream_of d) items) d) Unlisted) listed_now
         ∙ ap (λ s. taken_in l (stream_boots l s items) d) (sym this) in
-        ap (λ p. map (readings l.datagram_width k.id) (placed p (with_samples d []) bs))
+        ap (λ p. map (placed_readings l.datagram_width k.id) (placed p (with_samples d []) bs))
         (place-same l.boot_slack l.datagram_width bs d [])
         ∙ placed-not_first l.datagram_width k.id d (boot_place stamp_of l.boot_slack l.datagram_width bs d) bs
         (ap is_first (sym answered) ∙ not)
@@ -162,5 +175,5 @@ boots-same l items d xs = go (same_stream (stream_of d) (stream_of d))
         ∙ length-placed (boot_place stamp_of l.boot_slack l.datagram_width bs d) d xs bs
 
 pub source-boots-length : (l : Limits) (k : Source) (items : List Item)
-    → length (source_boots l k items) ≡ length (stream_boots l k.stream items)
-source-boots-length l k items = length-map-all (readings l.datagram_width k.id) (stream_boots l k.stream items)
+    → length (placed_boots l k items) ≡ length (stream_boots l k.stream items)
+source-boots-length l k items = length-map-all (placed_readings l.datagram_width k.id) (stream_boots l k.stream items)

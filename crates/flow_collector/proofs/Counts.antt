@@ -9,13 +9,15 @@ use Rattle.count_spec.proofs.Counts.{count_by-cons}
 use Rattle.books_spec.specs.Items.{Sample, Datagram, stamp_of, Item, Got, Malformed, Stream, stream_of, Source}
 use Rattle.books_spec.specs.declared.limits.Limits.{Limits}
 use Rattle.books_spec.specs.Listing.{same_stream, same_source, among, first_arrivals}
-use Rattle.books_spec.specs.Books.{listed_streams, own, stream_boots, taken_now, samples_at, entered_in, entered, source_of, sources_of, listed_sources, source_boots}
+use Rattle.books_spec.specs.Books.{listed_streams, own, stream_boots, taken_now, samples_at, entered_in, entered, source_of, sources_of, listed_sources}
+use Rattle.books_spec.specs.PlacedSamples.{placed_boots}
 use Rattle.books_spec.specs.declared.taken.Taken.{Taken}
 use Rattle.books_spec.specs.declared.taken.Taken.TheVariants.{First, Repeat, Late, Unlisted, Spent}
 use Rattle.books_spec.specs.declared.taken.Taken.TheVariants as takes
 use Rattle.books_spec.proofs.Listings.{IsSame, among-take}
 use Rattle.books_spec.proofs.Keys.{source-same}
-use Rattle.books_spec.proofs.Entered.{unlisted-none, readings-are-entered}
+use Rattle.books_spec.proofs.Entered.{unlisted-none}
+use Rattle.flow_collector.proofs.Readings.{readings-are-entered}
 use Rattle.books_spec.proofs.Adding.{boots-add_up}
 use Rattle.source_ledger.proofs.Trims.{trim-sum}
 use Rattle.stream_books.specs.Streams.{StreamState}
@@ -117,9 +119,9 @@ source-stream l items k there = go (among same_stream (listed_streams l items) k
 -- where nothing came of a source, none of its boots has a reading
 pub fresh-empty : (l : Limits) (items : List Item) (k : Source)
     → among same_stream (listed_streams l items) k.stream ≡ true
-    → among same_source (first_arrivals same_source (sources_of l items)) k ≡ false → AreEmpty (source_boots l k items)
+    → among same_source (first_arrivals same_source (sources_of l items)) k ≡ false → AreEmpty (placed_boots l k items)
 fresh-empty l items k there none =
-    none-empty (source_boots l k items) (readings-are-entered l k items there
+    none-empty (placed_boots l k items) (readings-are-entered l k items there
     ∙ absent-count same_source source-same k (sources_of l items)
     (not-arrived same_source source-same k (sources_of l items) none))
 
@@ -127,19 +129,19 @@ fresh-empty l items k there none =
 
 pub source-kept : (l : Limits) (items : List Item) (entries : List (SourceKey × SourceRecord)) (place : ℕ) (k : SourceKey)
     (was : SourceRecord) → slice_get entries place ≡ Some (k, was)
-    → SourcesStand (listed_streams l items) l.sources l.sample_width entries (sources_of l items) (λ s. source_boots l s items)
+    → SourcesStand (listed_streams l items) l.sources l.sample_width entries (sources_of l items) (λ s. placed_boots l s items)
     → (boot_of was ≤ length (stream_boots l (source_in (listed_streams l items) k).stream items))
     × (entered_count was ≤ length (sources_of l items))
 source-kept l items entries place k was at st =
     let name : SourceKey → Source = source_in (listed_streams l items) in
-    let own_stands = each-at name (SourceStands l.sample_width (λ s. source_boots l s items)) entries place k was at
+    let own_stands = each-at name (SourceStands l.sample_width (λ s. placed_boots l s items)) entries place k was at
     st.table.each in
     let P : List Source → Type 0 = λ keys. among same_source keys (name k) ≡ true in
     let there = subst P st.table.keys_are (among-at name same_source source-same entries place k was at) in
     let stream = source-stream l items (name k) there in
-    let boot = record-boot was (source_boots l (name k) items) own_stands.stands in
+    let boot = record-boot was (placed_boots l (name k) items) own_stands.stands in
     let long = source-boots-length l (name k) items in
-    let all = record-entered was (source_boots l (name k) items) own_stands.stands in
+    let all = record-entered was (placed_boots l (name k) items) own_stands.stands in
     let sum = readings-are-entered l (name k) items stream in
     let some = count_by-le-length (same_source (name k)) (sources_of l items) in
     (omega (arith, boot, long), omega (arith, all, sum, some))

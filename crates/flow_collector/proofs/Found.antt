@@ -25,7 +25,7 @@ use Rattle.collector_tables.specs.Listed.{StreamStands, StreamsStand}
 use Rattle.collector_tables.specs.Sources.{ArePlaced}
 use Rattle.collector_tables.proofs.Tables.{each-at}
 use Rattle.collector_tables.proofs.Placed.{absent-at}
-use Rattle.flow_collector.specs.Steps.{is_unlisted, IsFound}
+use Rattle.flow_collector.specs.Steps.{is_unlisted, number_in, IsFound}
 use Rattle.flow_collector.proofs.Lists.{or-more}
 use Rattle.flow_collector.proofs.Steps.{place-listed}
 
@@ -46,23 +46,25 @@ boots-at l entries items place k v stream at this st =
     ∙ (λ j. length (boots stamp_of l.boot_slack (own_stands.width j) (own (this j) items)))
 
 -- where the table of streams has the stream of a datagram
-pub is-found : (l : Limits) (items : List Item) (d : Datagram) (entries : List (StreamKey × StreamState)) (place : ℕ)
-    (k : StreamKey) (v : StreamState) (boot : ℕ) → slice_get entries place ≡ Some (k, v) → stream_in k ≡ stream_of d
-    → boot ≡ v.ledger.boot → StreamsStand l entries (Got d ∷ items) → IsFound l items place boot d
-is-found l items d entries place k v boot at this boot_is st = record {
-  at = key-at stream_in entries (listed_streams l (Got d ∷ items)) place k v at st.keys_are ∙ ap Some this;
-  boot_is = boot_is ∙ boots-at l entries (Got d ∷ items) place k v (stream_of d) at this st;
+pub is-found : (l : Limits) (items : List Item) (d : Datagram) (entries : List (StreamKey × StreamState)) (t : TakenAt)
+    (k : StreamKey) (v : StreamState) → slice_get entries t.place ≡ Some (k, v) → stream_in k ≡ stream_of d
+    → t.boot ≡ v.ledger.boot → t.receipt.number ≡ number_in l items d → StreamsStand l entries (Got d ∷ items)
+    → IsFound l items t d
+is-found l items d entries t k v at this boot_is number st = record {
+  at = key-at stream_in entries (listed_streams l (Got d ∷ items)) t.place k v at st.keys_are ∙ ap Some this;
+  boot_is = boot_is ∙ boots-at l entries (Got d ∷ items) t.place k v (stream_of d) at this st;
+  number_is = number;
 }
 
 pub some-found : (l : Limits) (items : List Item) (d : Datagram) (entries : List (StreamKey × StreamState))
     (key : StreamKey) (found : Option TakenAt)
     → IfSome found (λ t. (k : StreamKey) × (v : StreamState) × (slice_get entries t.place ≡ Some (k, v))
     × (stream_in k ≡ stream_in key) × (t.boot ≡ v.ledger.boot))
-    → stream_in key ≡ stream_of d → StreamsStand l entries (Got d ∷ items)
-    → IfSome found (λ t. IsFound l items t.place t.boot d)
-some-found l items d entries key None there this st = tt
-some-found l items d entries key (Some t) there this st =
-    is-found l items d entries t.place there.0 there.1 t.boot there.2 (there.3 ∙ this) there.4 st
+    → IfSome found (λ t. t.receipt.number ≡ number_in l items d)
+    → stream_in key ≡ stream_of d → StreamsStand l entries (Got d ∷ items) → IfSome found (λ t. IsFound l items t d)
+some-found l items d entries key None there number this st = tt
+some-found l items d entries key (Some t) there number this st =
+    is-found l items d entries t there.0 there.1 there.2 (there.3 ∙ this) there.4 number st
 
 -- the stream at the place of one that was found
 pub stream-found : (streams : List Stream) (place : ℕ) (stream : Stream) → slice_get streams place ≡ Some stream
@@ -170,13 +172,13 @@ among-here (x ∷ more) (suc n) stream at =
 
 -- it isn't exactly where the answer is that it isn't listed
 pub none-is-unlisted : (l : Limits) (items : List Item) (d : Datagram) (found : Option TakenAt)
-    → answer_in_books found ≡ taken_now l items (Got d) → IfSome found (λ t. IsFound l items t.place t.boot d)
+    → answer_in_books found ≡ taken_now l items (Got d) → IfSome found (λ t. IsFound l items t d)
     → ◌≡◌ {A = ℕ} (if is_some found then 0 else 1) (cond (is_unlisted (answer_in_books found)) 1 0)
 none-is-unlisted l items d None answer this = refl
 none-is-unlisted l items d (Some t) answer this =
     let there = among-here (listed_streams l (Got d ∷ items)) t.place (stream_of d) this.at in
     let bs : List (List Datagram) = stream_boots l (stream_of d) items in
-    let listed_answer : is_unlisted t.taken ≡ false = ap is_unlisted answer
+    let listed_answer : is_unlisted t.receipt.taken ≡ false = ap is_unlisted answer
     ∙ ap (λ b. is_unlisted (cond b (taken_in l bs d) Unlisted)) there
     ∙ place-listed l.datagram_width (boot_place stamp_of l.boot_slack l.datagram_width bs d) bs d.head.sequence in
     ap (λ b. cond b 1 0) (sym listed_answer)

@@ -9,9 +9,10 @@ use Rattle.count_spec.specs.Stretches.{placed}
 use Rattle.count_spec.specs.declared.stretch_place.StretchPlace.{StretchPlace}
 use Rattle.count_spec.specs.declared.stretch_place.StretchPlace.TheVariants.{Current, Next, Stale}
 use Rattle.books_spec.specs.Items.{SourceId, Datagram, stamp_of, Item, Got, Malformed, stream_of, Source}
-use Rattle.books_spec.specs.declared.reading.SampleReading.{SampleReading}
+use Rattle.books_spec.specs.SourceViews.{PlacedReading}
 use Rattle.books_spec.specs.Listing.{same_stream, same_source, among, listed, unlisted}
-use Rattle.books_spec.specs.Books.{is_malformed, streams_of, taken_at, taken_now, entered, Entered, is_other, own, stream_boots, sources_of, source_boots}
+use Rattle.books_spec.specs.Books.{is_malformed, streams_of, taken_at, taken_now, entered, Entered, is_other, own, stream_boots, sources_of}
+use Rattle.books_spec.specs.PlacedSamples.{placed_boots}
 use Rattle.books_spec.specs.declared.taken.Taken.TheVariants.{First}
 use Rattle.books_spec.proofs.Keys.{stream-same, and-split}
 use Rattle.books_spec.specs.declared.limits.Limits.{Limits}
@@ -100,13 +101,13 @@ other-few s l items st few_samples =
 -- ---- the boot of a datagram whose samples are entered
 
 -- readings stand in a current boot, and there are so many closed ones
-pub record HasBoot (boots : List (List SampleReading)) (number : ℕ) : Type 0 where
-  pub current : List SampleReading
-  pub closed : List (List SampleReading)
+pub record HasBoot (boots : List (List PlacedReading)) (number : ℕ) : Type 0 where
+  pub current : List PlacedReading
+  pub closed : List (List PlacedReading)
   pub boots_are : boots ≡ current ∷ closed
   pub number_is : length closed + 1 ≡ number
 
-some-boot : (bs : List (List SampleReading)) → 1 ≤ length bs → HasBoot bs (length bs)
+some-boot : (bs : List (List PlacedReading)) → 1 ≤ length bs → HasBoot bs (length bs)
 some-boot [] none = absurd (omega (arith, none))
 some-boot (current ∷ closed) some =
     record { current = current; closed = closed; boots_are = refl; number_is = omega arith }
@@ -130,11 +131,11 @@ boots-some l items d first = go (same_stream (stream_of d) (stream_of d)) (strea
         placed-some l.datagram_width (boot_place stamp_of l.boot_slack l.datagram_width bs d) d bs (first-in l items d first)
 
 pub has-boot : (l : Limits) (items : List Item) (d : Datagram) (id : SourceId) → taken_now l items (Got d) ≡ First
-    → HasBoot (source_boots l (record { stream = stream_of d; id = id }) (Got d ∷ items))
+    → HasBoot (placed_boots l (record { stream = stream_of d; id = id }) (Got d ∷ items))
     (length (stream_boots l (stream_of d) (Got d ∷ items)))
 has-boot l items d id first =
     let source : Source = record { stream = stream_of d; id = id } in
     let same = source-boots-length l source (Got d ∷ items) in
     let some = boots-some l items d first in
-    let P : ℕ → Type 0 = λ n. HasBoot (source_boots l source (Got d ∷ items)) n in
-    subst P same (some-boot (source_boots l source (Got d ∷ items)) (omega (arith, same, some)))
+    let P : ℕ → Type 0 = λ n. HasBoot (placed_boots l source (Got d ∷ items)) n in
+    subst P same (some-boot (placed_boots l source (Got d ∷ items)) (omega (arith, same, some)))

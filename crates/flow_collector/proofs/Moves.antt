@@ -1,13 +1,15 @@
 -- A collector that stands for some items stands for one more after each call.
-use Rattle.std.proofs.Common.{◌≡◌, ℕ, ◌+◌, Bool, true, false, cond, if◌then◌else◌, Option, Some, None, List, [], ◌∷◌, ◌++◌, length, take, zero, suc, refl, sym, ap, subst, ◌∙◌, arith}
+use Rattle.std.proofs.Common.{◌≡◌, ℕ, ℤ, ◌+◌, Bool, true, false, cond, if◌then◌else◌, Option, Some, None, List, [], ◌∷◌, ◌++◌, length, take, zero, suc, refl, sym, ap, subst, ◌∙◌, arith}
 use Rattle.std.specs.List.{count_by, filter_map}
 use Rattle.count_spec.proofs.Counts.{count_by-cons}
 use Rattle.wire_spec.specs.declared.fault.Fault.{Fault}
 use Rattle.books_spec.specs.Items.{SourceId, Sample, Of, Other, Datagram, Item, Got, Malformed, Stream, stream_of, Source}
 use Rattle.books_spec.specs.declared.reading.SampleReading.{SampleReading}
+use Rattle.books_spec.specs.SourceViews.{PlacedReading}
 use Rattle.books_spec.specs.declared.limits.Limits.{Limits}
 use Rattle.books_spec.specs.Listing.{same_source, among, listed, unlisted}
-use Rattle.books_spec.specs.Books.{is_malformed, fault_after, first_fault, listed_streams, taken_now, entered_in, Entered, source_of, is_other, entered, sources_of, source_boots, totals}
+use Rattle.books_spec.specs.Books.{is_malformed, fault_after, first_fault, listed_streams, taken_now, entered_in, Entered, source_of, is_other, entered, sources_of, totals}
+use Rattle.books_spec.specs.PlacedSamples.{placed_boots}
 use Rattle.books_spec.specs.declared.taken.Taken.{Taken}
 use Rattle.books_spec.specs.declared.taken.Taken.TheVariants.{First}
 use Rattle.books_spec.specs.declared.totals.Totals.{Totals}
@@ -24,7 +26,7 @@ use Rattle.collector_tables.specs.Listed.{StreamsStand}
 use Rattle.collector_tables.specs.Sources.{SourceStands, SourcesStand, after_reading}
 use Rattle.collector_tables.proofs.Tables.{each-map, each-renamed, keys-renamed}
 use Rattle.flow_collector.specs.Collectors.{CollectorState, StandsFor}
-use Rattle.flow_collector.specs.Steps.{is_first, is_unlisted, with_samples, with_sample}
+use Rattle.flow_collector.specs.Steps.{is_first, is_unlisted, with_samples, with_sample, number_in}
 use Rattle.flow_collector.proofs.Entering.{entered-one_more, sources-one_more, source-boots-of, source-boots-other}
 use Rattle.flow_collector.proofs.Boots.{sources-none, grown-stands, source-boots-none, entered-not_first, source-boots-not_first}
 use Rattle.flow_collector.proofs.Counts.{source-stream}
@@ -72,13 +74,13 @@ head-stands s l items d streams t unlisted_now answer count limit now st =
           keys_are = sym (keys-renamed (source_in before) (source_in after) s.sources.entries names) ∙ was.table.keys_are
               ∙ (λ j. listed same_source l.sources (sym sources j));
           each = each-renamed (source_in before) (source_in after)
-              (SourceStands l.sample_width (λ k. source_boots l k (Got (with_samples d []) ∷ items))) s.sources.entries
-              names (each-map (source_in before) same_source (SourceStands l.sample_width (λ k. source_boots l k items))
-              (SourceStands l.sample_width (λ k. source_boots l k (Got (with_samples d []) ∷ items))) s.sources.entries
+              (SourceStands l.sample_width (λ k. placed_boots l k (Got (with_samples d []) ∷ items))) s.sources.entries
+              names (each-map (source_in before) same_source (SourceStands l.sample_width (λ k. placed_boots l k items))
+              (SourceStands l.sample_width (λ k. placed_boots l k (Got (with_samples d []) ∷ items))) s.sources.entries
               (λ k r kept. record {
                 kind = kept.kind;
                 width_is = kept.width_is;
-                stands = grown-stands r (source_boots l k items) (source_boots l k (Got (with_samples d []) ∷ items))
+                stands = grown-stands r (placed_boots l k items) (placed_boots l k (Got (with_samples d []) ∷ items))
                     (source-boots-none l items d k) kept.stands;
               }) was.table.each);
         };
@@ -105,8 +107,8 @@ not_first-stands s l items d not st =
         table = record {
           keys_are = was.table.keys_are ∙ (λ j. listed same_source l.sources (same j));
           each = each-listed same_source source-same (source_in (listed_streams l (Got d ∷ items)))
-              (SourceStands l.sample_width (λ k. source_boots l k (Got (with_samples d []) ∷ items)))
-              (SourceStands l.sample_width (λ k. source_boots l k (Got d ∷ items))) s.sources.entries
+              (SourceStands l.sample_width (λ k. placed_boots l k (Got (with_samples d []) ∷ items)))
+              (SourceStands l.sample_width (λ k. placed_boots l k (Got d ∷ items))) s.sources.entries
               (λ k r there kept. record {
                 kind = kept.kind;
                 width_is = kept.width_is;
@@ -119,12 +121,12 @@ not_first-stands s l items d not st =
   where
     keeps : (k : Source) (r : SourceRecord)
         → among same_source (keys_in (source_in (listed_streams l (Got d ∷ items))) s.sources.entries) k ≡ true
-        → KeepsSource r (source_boots l k (Got (with_samples d []) ∷ items))
-        → KeepsSource r (source_boots l k (Got d ∷ items))
+        → KeepsSource r (placed_boots l k (Got (with_samples d []) ∷ items))
+        → KeepsSource r (placed_boots l k (Got d ∷ items))
     keeps k r there old =
         let P : List Source → Type 0 = λ keys. among same_source keys k ≡ true in
         let stream = source-stream l (Got (with_samples d []) ∷ items) k (subst P st.sources_stand.table.keys_are there) in
-        let R : List (List SampleReading) → Type 0 = λ bs. KeepsSource r bs in
+        let R : List (List PlacedReading) → Type 0 = λ bs. KeepsSource r bs in
         subst R (source-boots-not_first l items d k stream not) old
 
 -- ---- one sample more
@@ -159,7 +161,7 @@ other-stands s l items d first st =
     let other : count_by (λ (e : Entered). is_other e.sample) (entered l (Got d ∷ items)) + 1
     ≡ count_by (λ (e : Entered). is_other e.sample) (entered_in (stream_of d) Other ∷ entered l (Got d ∷ items)) =
     omega (arith, count) in
-    let boots : (λ k. source_boots l k (Got d ∷ items)) ≡ (λ k. source_boots l k (Got (with_sample d Other) ∷ items)) =
+    let boots : (λ k. placed_boots l k (Got d ∷ items)) ≡ (λ k. placed_boots l k (Got (with_sample d Other) ∷ items)) =
     λ j k. source-boots-other l items d k first j in
     let malformed = count-same items d (d.samples ++ Other ∷ []) in
     let fault = fault-same l items d (d.samples ++ Other ∷ []) in
@@ -170,8 +172,8 @@ other-stands s l items d first st =
       streams_stand = streams-same l s.streams.entries items d (d.samples ++ Other ∷ []) st.streams_stand;
       sources_stand =
           let P : List Source → Type 0 = λ arrived.
-          SourcesStand (listed_streams l (Got d ∷ items)) l.sources l.sample_width s.sources.entries arrived (λ k. source_boots l k (Got d ∷ items)) in
-          let Q : (Source → List (List SampleReading)) → Type 0 = λ boots_of. SourcesStand (listed_streams l (Got d ∷ items)) l.sources l.sample_width
+          SourcesStand (listed_streams l (Got d ∷ items)) l.sources l.sample_width s.sources.entries arrived (λ k. placed_boots l k (Got d ∷ items)) in
+          let Q : (Source → List (List PlacedReading)) → Type 0 = λ boots_of. SourcesStand (listed_streams l (Got d ∷ items)) l.sources l.sample_width
           s.sources.entries (sources_of l (Got (with_sample d Other) ∷ items)) boots_of in
           subst Q boots (subst P (sym sources) st.sources_stand);
       totals_are = ap with_other st.totals_are ∙ (λ j. record {
@@ -184,21 +186,24 @@ other-stands s l items d first st =
       });
     }
 
-pub of-stands : (s : CollectorState) (l : Limits) (items : List Item) (d : Datagram) (id : SourceId) (r : SampleReading)
+pub of-stands : (s : CollectorState) (l : Limits) (items : List Item) (d : Datagram) (id : SourceId) (r : SampleReading) (n : ℤ)
     (sources : Table SourceKey SourceRecord) (found : Bool) (unlisted_now : ℕ) → taken_now l items (Got d) ≡ First
+    → n ≡ number_in l items d
     → unlisted_now ≡ s.totals.unlisted_samples + (if found then 0 else 1)
     → sources.limit ≡ s.sources.limit
     → SourcesStand (listed_streams l (Got d ∷ items)) l.sources l.sample_width sources.entries
     (record { stream = stream_of d; id = id } ∷ sources_of l (Got d ∷ items))
-    (after_reading (record { stream = stream_of d; id = id }) r (λ k. source_boots l k (Got d ∷ items)))
+    (after_reading (record { stream = stream_of d; id = id }) (record { place = record { datagram = n; index = length d.samples }; reading = r })
+    (λ k. placed_boots l k (Got d ∷ items)))
     → unlisted same_source l.sources (record { stream = stream_of d; id = id } ∷ sources_of l (Got d ∷ items))
     ≡ unlisted same_source l.sources (sources_of l (Got d ∷ items)) + (if found then 0 else 1)
     → StandsFor s l (Got d ∷ items)
     → StandsFor (record s { sources = sources; totals = with_listed s.totals unlisted_now }) l
     (Got (with_sample d (Of id r)) ∷ items)
-of-stands s l items d id r table found unlisted_now first count_now limit now counted st =
+of-stands s l items d id r n table found unlisted_now first is count_now limit now counted st =
     let source : Source = record { stream = stream_of d; id = id } in
     let x : Sample = Of id r in
+    let p : PlacedReading = record { place = record { datagram = n; index = length d.samples }; reading = r } in
     let sources : sources_of l (Got (with_sample d x) ∷ items) ≡ source ∷ sources_of l (Got d ∷ items) =
     sources-one_more l items d x first in
     let more = entered-one_more l items d x first in
@@ -206,9 +211,9 @@ of-stands s l items d id r table found unlisted_now first count_now limit now co
     let other : count_by (λ (e : Entered). is_other e.sample) (entered l (Got d ∷ items))
     ≡ count_by (λ (e : Entered). is_other e.sample) (entered_in (stream_of d) x ∷ entered l (Got d ∷ items)) =
     omega (arith, count) in
-    let boots : after_reading source r (λ k. source_boots l k (Got d ∷ items))
-    ≡ (λ k. source_boots l k (Got (with_sample d x) ∷ items)) =
-    λ j k. source-boots-of l items d id r k first j in
+    let boots : after_reading source p (λ k. placed_boots l k (Got d ∷ items))
+    ≡ (λ k. placed_boots l k (Got (with_sample d x) ∷ items)) =
+    λ j k. source-boots-of l items d id r n k first is j in
     let malformed = count-same items d (d.samples ++ x ∷ []) in
     let fault = fault-same l items d (d.samples ++ x ∷ []) in
     record {
@@ -218,8 +223,8 @@ of-stands s l items d id r table found unlisted_now first count_now limit now co
       streams_stand = streams-same l s.streams.entries items d (d.samples ++ x ∷ []) st.streams_stand;
       sources_stand =
           let P : List Source → Type 0 = λ arrived. SourcesStand (listed_streams l (Got d ∷ items)) l.sources l.sample_width table.entries arrived
-          (after_reading source r (λ k. source_boots l k (Got d ∷ items))) in
-          let Q : (Source → List (List SampleReading)) → Type 0 = λ boots_of. SourcesStand (listed_streams l (Got d ∷ items)) l.sources l.sample_width
+          (after_reading source p (λ k. placed_boots l k (Got d ∷ items))) in
+          let Q : (Source → List (List PlacedReading)) → Type 0 = λ boots_of. SourcesStand (listed_streams l (Got d ∷ items)) l.sources l.sample_width
           table.entries (sources_of l (Got (with_sample d x) ∷ items)) boots_of in
           subst Q boots (subst P (sym sources) now);
       totals_are = (λ j. with_listed (st.totals_are j)
@@ -244,7 +249,7 @@ pub opened-stands : (l : Limits) (streams : Table StreamKey StreamState) (source
 opened-stands l streams sources no_streams stream_room no_sources source_room =
     let P : List (StreamKey × StreamState) → Type 0 = λ entries. StreamsStand l entries [] in
     let Q : List (SourceKey × SourceRecord) → Type 0 = λ entries.
-    SourcesStand (listed_streams l []) l.sources l.sample_width entries (sources_of l []) (λ k. source_boots l k []) in
+    SourcesStand (listed_streams l []) l.sources l.sample_width entries (sources_of l []) (λ k. placed_boots l k []) in
     record {
       limits_are = refl;
       stream_limit = stream_room;

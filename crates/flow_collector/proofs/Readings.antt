@@ -1,5 +1,7 @@
--- What a sample shows is what stands in its value.
-use Rattle.std.proofs.Common.{◌≡◌, ℕ, ◌+◌, ◌*◌, ◌/◌, ◌%◌, ◌^◌, refl, sym, ap, subst, ◌∙◌, arith}
+-- What a sample shows is what stands in its value, and how many readings there are.
+use Rattle.std.proofs.Common.{◌≡◌, ℕ, suc, ◌+◌, ◌*◌, ◌/◌, ◌%◌, ◌^◌, true, List, [], ◌∷◌, length, map, refl, sym, ap, subst, ◌∙◌, arith}
+use Rattle.std.specs.List.{sum_by, count_by}
+use Rattle.std.proofs.lemmas.List.Sums.{sum_by-cons}
 use Rattle.wire_spec.specs.Heads.{AgentAddress, unknown, ipv4, ipv6, address_tree}
 use Rattle.data_format.specs.declared.heads.Form.{Form}
 use Rattle.data_format.specs.declared.heads.Form.TheVariants.{Compact, Expanded}
@@ -16,7 +18,15 @@ use Rattle.datagram_core.specs.Tables.{samples_read}
 use Rattle.datagram_core.specs.Trees.{tree_of}
 use Rattle.datagram_core.specs.declared.sample_head.SampleHead.{SampleHead}
 use Rattle.datagram_core.specs.declared.sample_head.SampleHead.TheVariants as heads
-use Rattle.books_spec.specs.Items.{Sample, Other, Datagram, flow_sample, counters_sample}
+use Rattle.books_spec.specs.declared.limits.Limits.{Limits}
+use Rattle.books_spec.specs.declared.reading.SampleReading.{SampleReading}
+use Rattle.books_spec.specs.Items.{Sample, Other, Datagram, Item, Source, flow_sample, counters_sample}
+use Rattle.books_spec.specs.Listing.{same_stream, same_source, among}
+use Rattle.books_spec.specs.Books.{listed_streams, sources_of, source_boots}
+use Rattle.books_spec.specs.SourceViews.{PlacedReading}
+use Rattle.books_spec.specs.PlacedSamples.{placed_boots}
+use Rattle.books_spec.proofs.Entered.{readings-are-entered as entered-readings}
+use Rattle.books_spec.proofs.Placed.{reading_in, boots-are}
 use Rattle.flow_collector.specs.Items.{sample_in, samples_in, datagram_in}
 use Rattle.flow_collector.specs.Shown.{flow_of, counters_of}
 
@@ -70,3 +80,30 @@ datagram-in-tree arrival d =
       samples = samples_in (frame_trees samples_read d.samples);
     } in
     ap A (address_in-tree d.head.agent)
+
+-- ---- how many readings there are
+
+-- as many readings with their places as without
+pub placed-sum : (l : Limits) (source : Source) (items : List Item)
+    → sum_by length (placed_boots l source items) ≡ sum_by length (source_boots l source items)
+placed-sum l source items =
+    sum-of (placed_boots l source items) ∙ ap (sum_by length) (boots-are l source items)
+  where
+    length-of : (rs : List PlacedReading) → length rs ≡ length (map reading_in rs)
+    length-of [] = refl
+    length-of (r ∷ rs) = ap suc (length-of rs)
+
+    sum-of : (bs : List (List PlacedReading)) → sum_by length bs ≡ sum_by length (map (map reading_in) bs)
+    sum-of [] = refl
+    sum-of (b ∷ more) =
+        let here = length-of b in
+        let later = sum-of more in
+        let x = sum_by-cons (λ (rs : List PlacedReading). length rs) b more in
+        let y = sum_by-cons (λ (rs : List SampleReading). length rs) (map reading_in b) (map (map reading_in) more) in
+        omega (arith, here, later, x, y)
+
+-- the readings are the entered samples
+pub readings-are-entered : (l : Limits) (k : Source) (items : List Item)
+    → among same_stream (listed_streams l items) k.stream ≡ true
+    → sum_by length (placed_boots l k items) ≡ count_by (same_source k) (sources_of l items)
+readings-are-entered l k items there = placed-sum l k items ∙ entered-readings l k items there

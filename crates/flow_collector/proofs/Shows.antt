@@ -7,10 +7,13 @@ use Rattle.count_spec.specs.Boots.{sequences, boots, stale_items}
 use Rattle.books_spec.specs.Views.{plain_view}
 use Rattle.books_spec.specs.declared.ledger_view.LedgerView.{LedgerView}
 use Rattle.books_spec.specs.Items.{Datagram, stamp_of, Item, Stream}
-use Rattle.books_spec.specs.declared.reading.SampleReading.{SampleReading}
+use Rattle.books_spec.specs.SourceViews.{PlacedReading, source_view}
+use Rattle.books_spec.specs.PlacedSamples.{placed_boots}
+use Rattle.books_spec.specs.WholeBooks.{source_line}
+use Rattle.books_spec.specs.declared.source_view.SourceLedgerView.{SourceLedgerView}
 use Rattle.books_spec.specs.declared.limits.Limits.{Limits}
 use Rattle.books_spec.specs.Listing.{same_stream}
-use Rattle.books_spec.specs.Books.{streams_of, listed_streams, listed_sources, own, stream_boots, stale_of, source_boots, sources_of, readings_view, stream_books, source_books}
+use Rattle.books_spec.specs.Books.{streams_of, listed_streams, listed_sources, own, stream_boots, stale_of, sources_of, stream_books}
 use Rattle.books_spec.proofs.Listings.{listed-few, listed-distinct}
 use Rattle.books_spec.proofs.Keys.{stream-same}
 use Rattle.stream_books.specs.Streams.{StreamState, StandsFor as KeepsStream}
@@ -60,7 +63,7 @@ stream-shown l items entries place k v count stale view at counts stales views s
 pub placed-at : (l : Limits) (items : List Item) (entries : List (SourceKey × SourceRecord)) (place : ℕ)
     (k : SourceKey) (v : SourceRecord) → slice_get entries place ≡ Some (k, v)
     → SourcesStand (listed_streams l items) l.sources l.sample_width entries (sources_of l items)
-    (λ s. source_boots l s items) → k.stream < length (listed_streams l items)
+    (λ s. placed_boots l s items) → k.stream < length (listed_streams l items)
 placed-at l items entries place k v at st =
     each-at (λ (x : SourceKey). x) (λ x r. x.stream < length (listed_streams l items)) entries place k v at st.placed
 
@@ -68,31 +71,31 @@ placed-at l items entries place k v at st =
 pub place-few : (l : Limits) (items : List Item) (entries : List (SourceKey × SourceRecord)) (place : ℕ)
     (k : SourceKey) (v : SourceRecord) → slice_get entries place ≡ Some (k, v)
     → SourcesStand (listed_streams l items) l.sources l.sample_width entries (sources_of l items)
-    (λ s. source_boots l s items) → k.stream < l.streams
+    (λ s. placed_boots l s items) → k.stream < l.streams
 place-few l items entries place k v at st =
     let less = placed-at l items entries place k v at st in
     let few = listed-few same_stream l.streams (streams_of items) in
     omega (arith, less, few)
 
 pub source-shown : (l : Limits) (items : List Item) (entries : List (SourceKey × SourceRecord)) (place : ℕ)
-    (k : SourceKey) (v : SourceRecord) (boot : ℕ) (view : LedgerView) → slice_get entries place ≡ Some (k, v)
+    (k : SourceKey) (v : SourceRecord) (boot : ℕ) (view : SourceLedgerView) → slice_get entries place ≡ Some (k, v)
     → boot ≡ length (stream_boots l (stream_at (listed_streams l items) k.stream) items)
-    → ((bs : List (List SampleReading)) → length bs ≡ boot → KeepsSource v bs
-    → view ≡ readings_view (is_flow v) (width_of v) bs)
+    → ((bs : List (List PlacedReading)) → length bs ≡ boot → KeepsSource v bs
+    → view ≡ source_view (is_flow v) (width_of v) bs)
     → SourcesStand (listed_streams l items) l.sources l.sample_width entries (sources_of l items)
-    (λ s. source_boots l s items)
+    (λ s. placed_boots l s items)
     → Some (record { stream = k.stream + 1; id = id_in k; view = view })
-    ≡ slice_get (map (source_books l items) (listed_sources l items)) place
+    ≡ slice_get (map (source_line l items) (listed_sources l items)) place
 source-shown l items entries place k v boot view at boots_are views st =
     let streams : List Stream = listed_streams l items in
-    let kept = each-at (source_in streams) (SourceStands l.sample_width (λ s. source_boots l s items)) entries place k v at
+    let kept = each-at (source_in streams) (SourceStands l.sample_width (λ s. placed_boots l s items)) entries place k v at
     st.table.each in
-    let bs : List (List SampleReading) = source_boots l (source_in streams k) items in
+    let bs : List (List PlacedReading) = placed_boots l (source_in streams k) items in
     let distinct = listed-distinct same_stream stream-same l.streams (streams_of items) in
     let placed : IsPlaced streams k = record { distinct = distinct; place = placed-at l items entries place k v at st } in
     let one = sym (place-of-place streams k placed) in
-    let two : view ≡ readings_view (is_flow_kind k.kind) l.sample_width bs =
+    let two : view ≡ source_view (is_flow_kind k.kind) l.sample_width bs =
     views bs (source-boots-length l (source_in streams k) items ∙ sym boots_are) kept.stands
-    ∙ (λ j. readings_view (kept.kind j) (kept.width_is j) bs) in
+    ∙ (λ j. source_view (kept.kind j) (kept.width_is j) bs) in
     (λ j. Some (record { stream = one j + 1; id = id_in k; view = two j }))
-    ∙ place-of (source_in streams) (source_books l items) entries (listed_sources l items) place k v at st.table.keys_are
+    ∙ place-of (source_in streams) (source_line l items) entries (listed_sources l items) place k v at st.table.keys_are

@@ -61,28 +61,28 @@ is-at at d h is = (refl, ap (λ (x : Head). x.uptime) (sym is), ap (λ (x : Head
 
 -- where it was found
 pub found-at : (l : Limits) (items : List Item) (d : Datagram) (o : Option TakenAt) (t : TakenAt) → o ≡ Some t
-    → IfSome o (λ x. IsFound l items x.place x.boot d) → IsFound l items t.place t.boot d
+    → IfSome o (λ x. IsFound l items x d) → IsFound l items t d
 found-at l items d o t is this =
-    let P : Option TakenAt → Type 0 = λ x. IfSome x (λ y. IsFound l items y.place y.boot d) in
+    let P : Option TakenAt → Type 0 = λ x. IfSome x (λ y. IsFound l items y d) in
     let now : P (Some t) = subst P is this in
     now
 
 -- the samples of a datagram that was taken may be entered
-pub may-enter : (now : CollectorState) (l : Limits) (items : List Item) (place boot : ℕ) (d : Datagram)
-    → Enters l items place boot d → StandsFor now l (Got (with_samples d []) ∷ items) → AreFew items
-    → length items < most_entries → Midway now place boot 0
-may-enter now l items place boot d entering st few room =
+pub may-enter : (now : CollectorState) (l : Limits) (items : List Item) (t : TakenAt) (d : Datagram)
+    → Enters l items t d → StandsFor now l (Got (with_samples d []) ∷ items) → AreFew items
+    → length items < most_entries → Midway now t 0
+may-enter now l items t d entering st few room =
     let back = sym st.limits_are in
-    let E : Limits → Type 0 = λ x. Enters x items place boot (with_samples d []) in
+    let E : Limits → Type 0 = λ x. Enters x items t (with_samples d []) in
     let S : Limits → Type 0 = λ x. StandsFor now x (Got (with_samples d []) ∷ items) in
     record {
       items = items;
       datagram = with_samples d [];
-      enters = subst E back (enters-with l items place boot d [] entering);
+      enters = subst E back (enters-with l items t d [] entering);
       stands = subst S back st;
       few_samples = few;
       few_entries = room;
-      few = omega arith;
+      index_is = refl;
     }
 
 -- a datagram that isn't First

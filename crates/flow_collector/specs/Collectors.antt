@@ -3,7 +3,8 @@ use Rattle.std.specs.Prelude.{◌≡◌, ◌≤◌, List, [], ◌∷◌, length}
 use Rattle.books_spec.specs.declared.limits.Limits.{Limits}
 use Rattle.books_spec.specs.declared.totals.Totals.{Totals}
 use Rattle.books_spec.specs.Items.{Item, Got, Malformed}
-use Rattle.books_spec.specs.Books.{listed_streams, sources_of, source_boots, totals, most_entries}
+use Rattle.books_spec.specs.Books.{listed_streams, sources_of, totals, most_entries}
+use Rattle.books_spec.specs.PlacedSamples.{placed_boots}
 use Rattle.stream_books.specs.Streams.{StreamState}
 use Rattle.stream_books.specs.declared.source.SourceRecord.{SourceRecord}
 use Rattle.collector_tables.specs.declared.keys.StreamKey.{StreamKey}
@@ -35,7 +36,7 @@ pub record StandsFor (s : CollectorState) (l : Limits) (items : List Item) : Typ
   pub source_limit : s.sources.limit ≡ l.sources
   pub streams_stand : StreamsStand l s.streams.entries items
   pub sources_stand : SourcesStand (listed_streams l items) l.sources l.sample_width s.sources.entries
-      (sources_of l items) (λ k. source_boots l k items)
+      (sources_of l items) (λ k. placed_boots l k items)
   pub totals_are : s.totals ≡ totals l items
 
 -- a datagram has at most 8,191 samples

@@ -1,11 +1,13 @@
 -- The items for which a collector stands while it takes a datagram: first the datagram without its samples, and then
 -- with one sample more after the other.
-use Rattle.std.specs.Prelude.{◌≡◌, ℕ, ◌≤◌, ◌<◌, Bool, true, false, Some, List, [], ◌∷◌, ◌++◌, length, slice_get}
+use Rattle.std.specs.Prelude.{◌≡◌, ℕ, ◌<◌, ℤ, Bool, true, false, Some, List, [], ◌∷◌, ◌++◌, length, slice_get}
 use Rattle.books_spec.specs.declared.limits.Limits.{Limits}
 use Rattle.books_spec.specs.declared.taken.Taken.{Taken}
 use Rattle.books_spec.specs.declared.taken.Taken.TheVariants.{First, Repeat, Late, Stale, Unlisted, Malformed, Spent}
 use Rattle.books_spec.specs.Items.{Sample, Datagram, Item, Got, stream_of}
 use Rattle.books_spec.specs.Books.{listed_streams, taken_now, stream_boots, most_entries}
+use Rattle.stream_books.specs.Receipts.{receipt_in}
+use Rattle.collector_tables.specs.declared.streams.TakenAt.{TakenAt}
 use Rattle.flow_collector.specs.Collectors.{CollectorState, StandsFor, AreFew}
 
 -- the samples of a datagram that is answered so are entered
@@ -38,23 +40,27 @@ with_sample d x = with_samples d (d.samples ++ x ∷ [])
 abbrev pub boot_number : Limits → List Item → Datagram → ℕ
 boot_number l items d = length (stream_boots l (stream_of d) (Got d ∷ items))
 
--- after these items and the datagram, its stream stands at this place and has so many boots
-pub record IsFound (l : Limits) (items : List Item) (place boot : ℕ) (d : Datagram) : Type 0 where
-  pub at : slice_get (listed_streams l (Got d ∷ items)) place ≡ Some (stream_of d)
-  pub boot_is : boot ≡ boot_number l items d
+-- the number that its sequence word stands for in that boot, where it is First
+abbrev pub number_in : Limits → List Item → Datagram → ℤ
+number_in l items d = (receipt_in l.boot_slack l.datagram_width (stream_boots l (stream_of d) items) d).number
 
--- the samples of the datagram are entered after these items, by this place and boot of its stream
-pub record Enters (l : Limits) (items : List Item) (place boot : ℕ) (d : Datagram) : Type 0 where
-  pub found : IsFound l items place boot d
+-- after these items and the datagram, its stream stands at this place and has so many boots, and its number is this
+pub record IsFound (l : Limits) (items : List Item) (t : TakenAt) (d : Datagram) : Type 0 where
+  pub at : slice_get (listed_streams l (Got d ∷ items)) t.place ≡ Some (stream_of d)
+  pub boot_is : t.boot ≡ boot_number l items d
+  pub number_is : t.receipt.number ≡ number_in l items d
+
+-- the samples of the datagram are entered after these items, by this place and boot of its stream and this number
+pub record Enters (l : Limits) (items : List Item) (t : TakenAt) (d : Datagram) : Type 0 where
+  pub found : IsFound l items t d
   pub first : taken_now l items (Got d) ≡ First
 
--- the collector stands for items the last of which is a datagram whose samples are being entered, so many of them at
--- most so far
-pub record Midway (s : CollectorState) (place boot most : ℕ) : Type 0 where
+-- the collector stands for items the last of which is a datagram whose samples are being entered, so many of them so far
+pub record Midway (s : CollectorState) (t : TakenAt) (index : ℕ) : Type 0 where
   pub items : List Item
   pub datagram : Datagram
-  pub enters : Enters s.limits items place boot datagram
+  pub enters : Enters s.limits items t datagram
   pub stands : StandsFor s s.limits (Got datagram ∷ items)
   pub few_samples : AreFew items
   pub few_entries : length items < most_entries
-  pub few : length datagram.samples ≤ most
+  pub index_is : length datagram.samples ≡ index

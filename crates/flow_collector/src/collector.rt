@@ -10,6 +10,7 @@ ghost use Rattle.books_spec.specs.declared.limits.Limits.{Limits};
 ghost use Rattle.books_spec.specs.Items.{Datagram as Given, Item, Got, Malformed as Faulty, stream_of};
 ghost use Rattle.books_spec.specs.Limits.{refused_limit};
 ghost use Rattle.books_spec.specs.Books.{books, fault_after, taken, taken_now, totals, listed_streams, listed_sources, most_entries};
+ghost use Rattle.books_spec.specs.WholeBooks.{whole_books};
 ghost use Rattle.stream_books.specs.Streams.{IsAt};
 ghost use Rattle.collector_tables.specs.Keys.{stream_in};
 ghost use Rattle.collector_tables.specs.Answers.{answer_in_books};
@@ -29,7 +30,7 @@ use datagram_core::{Datagram, SampleHead, Samples};
 use std::alloc::Global;
 use std::hash::RandomState;
 use std::marker::Model;
-use stream_books::Taken;
+use stream_books::{SamplePlace, Taken};
 
 /// At most so many entries are taken.
 const MOST_ENTRIES: u64 = 1 << 48;
@@ -122,10 +123,11 @@ impl Collector {
         let Some(found) = self.take_head(stream, at, head.uptime, head.sequence) else {
             return Taken::Unlisted;
         };
-        if is_entered(found.taken) {
-            self.enter_samples(found.place, found.boot, datagram.samples());
+        if is_entered(found.receipt.taken) {
+            self.enter_samples(&found, datagram.samples());
+            return found.receipt.taken;
         }
-        found.taken
+        found.receipt.taken
     }
 
     // Takes a datagram as though it had no samples; `None` where its stream isn't listed.
@@ -145,7 +147,7 @@ impl Collector {
             → answer_in_books result ≡ taken_now l items (Got d) }
         ensures found { (l : Limits) (items : List Item) (d : Given) → stream_in stream ≡ stream_of d
             → IsAt d at uptime sequence → StandsFor self.old l items
-            → IfSome result (λ t. IsFound l items t.place t.boot d) }
+            → IfSome result (λ t. IsFound l items t d) }
     {
         self.totals.entries += 1;
         let found = self.streams.take(
@@ -160,29 +162,32 @@ impl Collector {
         found
     }
 
-    // Enters the samples of a datagram that was taken as though it had none, by the place and the boot of its stream.
-    fn enter_samples(&mut self, place: u32, boot: u64, mut samples: Samples<'_>)
-        requires midway { Midway self.old place boot 0 }
+    // Enters the samples of a datagram that was taken as though it had none.
+    fn enter_samples(&mut self, found: &TakenAt, mut samples: Samples<'_>)
+        requires midway { Midway self.old found.now 0 }
         requires few { length samples ≤ 8191 }
-        ensures stands { (l : Limits) (items : List Item) (d : Given) → Enters l items place boot d
+        ensures stands { (l : Limits) (items : List Item) (d : Given) → Enters l items found.now d
             → StandsFor self.old l (Got (with_samples d []) ∷ items)
             → StandsFor self.new l (Got (with_samples d (samples_in (frame_trees samples_read samples.entry))) ∷ items) }
     {
+        let mut index = 0;
         while let Some(head) = samples.next_head() {
-            self.enter_sample(place, boot, &head);
+            self.enter_sample(found, index, &head);
+            index += 1;
         }
     }
 
-    // Enters one sample more of the datagram, by its head, and answers where it was entered and what its ledger
+    // Enters the sample of this index of the datagram, by its head, and answers where it was entered and what its ledger
     // answered; `None` where its format isn't read or its source isn't listed.
-    fn enter_sample(&mut self, place: u32, boot: u64, head: &SampleHead) -> Option<EnteredAt>
-        requires midway { Midway self.old place boot 8190 }
-        ensures stands { (l : Limits) (items : List Item) (d : Given) (f : FrameView) → Enters l items place boot d
-            → IsHeadOf f head.now → StandsFor self.old l (Got d ∷ items)
+    fn enter_sample(&mut self, found: &TakenAt, index: u32, head: &SampleHead) -> Option<EnteredAt>
+        requires midway { Midway self.old found.now index }
+        requires few { index ≤ 8190 }
+        ensures stands { (l : Limits) (items : List Item) (d : Given) (f : FrameView) → Enters l items found.now d
+            → length d.samples ≡ index → IsHeadOf f head.now → StandsFor self.old l (Got d ∷ items)
             → StandsFor self.new l (Got (with_sample d (sample_in (frame_tree samples_read f))) ∷ items) }
     {
         match read_sample(head) {
-            Some(shown) => self.enter(place, boot, shown),
+            Some(shown) => self.enter(found, index, shown),
             None => {
                 self.totals.other += 1;
                 None
@@ -191,19 +196,23 @@ impl Collector {
     }
 
     // Enters what a sample shows whose format is read.
-    fn enter(&mut self, place: u32, boot: u64, shown: Shown) -> Option<EnteredAt>
-        requires midway { Midway self.old place boot 8190 }
-        ensures stands { (l : Limits) (items : List Item) (d : Given) → Enters l items place boot d
-            → StandsFor self.old l (Got d ∷ items)
+    fn enter(&mut self, found: &TakenAt, index: u32, shown: Shown) -> Option<EnteredAt>
+        requires midway { Midway self.old found.now index }
+        requires few { index ≤ 8190 }
+        ensures stands { (l : Limits) (items : List Item) (d : Given) → Enters l items found.now d
+            → length d.samples ≡ index → StandsFor self.old l (Got d ∷ items)
             → StandsFor self.new l (Got (with_sample d (sample_shown (Some shown))) ∷ items) }
     {
         let key = SourceKey {
-            stream: place,
+            stream: found.place,
             kind: shown.kind,
             source: shown.source,
         };
+        let at = place_at(found, index);
         let width = self.limits.sample_width;
-        let entered = self.sources.enter(key, width, boot, shown.reading);
+        let entered = self
+            .sources
+            .enter(key, width, found.boot, at, shown.reading);
         self.totals.unlisted_samples += none_count(entered.is_some());
         entered
     }
@@ -264,16 +273,19 @@ impl Collector {
     /// What is shown of the source at a place, from 0 on in order of first arrival; `None` exactly past the end.
     pub fn source(&self, place: usize) -> Option<SourceView>
         ensures view { (l : Limits) (items : List Item) → StandsFor self.now l items
-            → option_map source_shown result ≡ slice_get (books l items).sources place }
+            → option_map source_shown result ≡ slice_get (whole_books l items).sources place }
         ensures conserved { IfSome result (λ v. v.ledger.issued ≡ v.ledger.received + v.ledger.pending + v.ledger.lost) }
     {
         let (key, source) = self.sources.get(place)?;
         let (_, stream) = self.streams.get(key.stream as usize)?;
+        let view = source.view(stream.boots());
         Some(SourceView {
             stream: key.stream + 1,
             flow: key.kind.is_flow(),
             source: key.source,
-            ledger: source.view(stream.boots()),
+            generations: view.generations,
+            ledger: view.ledger,
+            stale: view.stale,
         })
     }
 
@@ -306,6 +318,16 @@ fn first_of(first: Option<FirstFault>, entry: u64, fault: &Fault) -> Option<Firs
             entry,
             fault: *fault,
         }),
+    }
+}
+
+// Where the sample of this index stands of a datagram that was taken so.
+fn place_at(found: &TakenAt, index: u32) -> SamplePlace
+    ensures { result ≡ record { datagram = found.now.receipt.number; index = index } }
+{
+    SamplePlace {
+        datagram: found.receipt.number,
+        index,
     }
 }
 

@@ -1,7 +1,8 @@
 -- The lines of more and more streams, and of more and more sources.
 use Rattle.std.proofs.Common.{◌≡◌, ℕ, ◌+◌, List, [], ◌∷◌, ◌++◌, length, sym, ap, ◌∙◌, append_assoc, append-nil, arith}
 use Rattle.std.proofs.lemmas.Grind.{flat_map-append}
-use Rattle.books_spec.specs.Books.{StreamBooks, SourceBooks}
+use Rattle.books_spec.specs.Books.{StreamBooks}
+use Rattle.books_spec.specs.WholeBooks.{SourceLine}
 use Rattle.report_lines.specs.Lines.{stream_text, source_text}
 use Rattle.report_lines.specs.Reports.{stream_texts, source_texts}
 
@@ -24,11 +25,11 @@ stream_texts-append number (x ∷ xs) ys =
     ∙ sym (append_assoc (stream_text number x) (stream_texts (number + 1) xs) (stream_texts (number + length (x ∷ xs)) ys))
 
 -- one more source
-pub source_texts-push : (xs : List SourceBooks) (x : SourceBooks)
+pub source_texts-push : (xs : List SourceLine) (x : SourceLine)
     → source_texts (xs ++ x ∷ []) ≡ source_texts xs ++ source_text x
 source_texts-push xs x =
     flat_map-append source_text xs (x ∷ []) ∙ ap (λ l. source_texts xs ++ l) (append-nil (source_text x))
 
 -- the lines of the first sources are a beginning of the lines of all
-pub source_texts-append : (xs ys : List SourceBooks) → source_texts (xs ++ ys) ≡ source_texts xs ++ source_texts ys
+pub source_texts-append : (xs ys : List SourceLine) → source_texts (xs ++ ys) ≡ source_texts xs ++ source_texts ys
 source_texts-append xs ys = flat_map-append source_text xs ys

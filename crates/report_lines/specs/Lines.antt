@@ -4,7 +4,8 @@ use Rattle.std.specs.List.{concat}
 use Rattle.wire_spec.specs.Texts.{address_text}
 use Rattle.wire_spec.specs.declared.fault.Fault.{Fault}
 use Rattle.wire_spec.specs.FaultNames.{fault_name}
-use Rattle.books_spec.specs.Books.{StreamBooks, SourceBooks}
+use Rattle.books_spec.specs.Books.{StreamBooks}
+use Rattle.books_spec.specs.WholeBooks.{SourceLine}
 use Rattle.books_spec.specs.declared.totals.FirstFault.{FirstFault}
 use Rattle.books_spec.specs.declared.totals.Totals.{Totals}
 
@@ -25,42 +26,46 @@ stream_text number s = concat (
     codes "\n" ∷ [])
 
 -- the line of a source of flow samples
-unfoldable pub flow_text : SourceBooks → List ℕ
+unfoldable pub flow_text : SourceLine → List ℕ
 flow_text s = concat (
     codes "source " ∷ decimal s.stream ∷
     codes " flow " ∷ decimal s.id.class ∷
     codes ":" ∷ decimal s.id.index ∷
-    codes " issued " ∷ decimal s.view.issued ∷
-    codes " received " ∷ decimal s.view.received ∷
-    codes " pending " ∷ decimal s.view.pending ∷
-    codes " lost " ∷ decimal s.view.lost ∷
-    codes " repeated " ∷ decimal s.view.repeated ∷
-    codes " late " ∷ decimal s.view.late ∷
-    codes " pool " ∷ decimal s.view.pool ∷
-    codes " drops " ∷ decimal s.view.drops ∷
-    codes " rate " ∷ decimal s.view.rate ∷
+    codes " generations " ∷ decimal s.view.generations ∷
+    codes " issued " ∷ decimal s.view.ledger.issued ∷
+    codes " received " ∷ decimal s.view.ledger.received ∷
+    codes " pending " ∷ decimal s.view.ledger.pending ∷
+    codes " lost " ∷ decimal s.view.ledger.lost ∷
+    codes " repeated " ∷ decimal s.view.ledger.repeated ∷
+    codes " late " ∷ decimal s.view.ledger.late ∷
+    codes " stale " ∷ decimal s.view.stale ∷
+    codes " pool " ∷ decimal s.view.ledger.pool ∷
+    codes " drops " ∷ decimal s.view.ledger.drops ∷
+    codes " rate " ∷ decimal s.view.ledger.rate ∷
     codes "\n" ∷ [])
 
 -- the line of a source of counters samples
-unfoldable pub counters_text : SourceBooks → List ℕ
+unfoldable pub counters_text : SourceLine → List ℕ
 counters_text s = concat (
     codes "source " ∷ decimal s.stream ∷
     codes " counters " ∷ decimal s.id.class ∷
     codes ":" ∷ decimal s.id.index ∷
-    codes " issued " ∷ decimal s.view.issued ∷
-    codes " received " ∷ decimal s.view.received ∷
-    codes " pending " ∷ decimal s.view.pending ∷
-    codes " lost " ∷ decimal s.view.lost ∷
-    codes " repeated " ∷ decimal s.view.repeated ∷
-    codes " late " ∷ decimal s.view.late ∷
+    codes " generations " ∷ decimal s.view.generations ∷
+    codes " issued " ∷ decimal s.view.ledger.issued ∷
+    codes " received " ∷ decimal s.view.ledger.received ∷
+    codes " pending " ∷ decimal s.view.ledger.pending ∷
+    codes " lost " ∷ decimal s.view.ledger.lost ∷
+    codes " repeated " ∷ decimal s.view.ledger.repeated ∷
+    codes " late " ∷ decimal s.view.ledger.late ∷
+    codes " stale " ∷ decimal s.view.stale ∷
     codes "\n" ∷ [])
 
-abbrev pub kind_text : Bool → SourceBooks → List ℕ
+abbrev pub kind_text : Bool → SourceLine → List ℕ
 kind_text true s = flow_text s
 kind_text false s = counters_text s
 
 -- the line of a source
-abbrev pub source_text : SourceBooks → List ℕ
+abbrev pub source_text : SourceLine → List ℕ
 source_text s = kind_text s.id.flow s
 
 -- the line of a fault, which is that of the entry with this number

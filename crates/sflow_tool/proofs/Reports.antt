@@ -4,7 +4,8 @@ use Rattle.std.specs.Prelude.{slice_get}
 use Rattle.std.proofs.lemmas.List.{take_more}
 use Rattle.std.proofs.lemmas.Option.{get_or_from_slice_get, slice_get_cases, slice_get_within}
 use Rattle.sflow_io.specs.Seen.{Seen, TakesPart}
-use Rattle.books_spec.specs.Books.{StreamBooks, SourceBooks}
+use Rattle.books_spec.specs.Books.{StreamBooks}
+use Rattle.books_spec.specs.WholeBooks.{SourceLine}
 use Rattle.text_lines.specs.Pages.{Puts, Prints}
 use Rattle.text_lines.proofs.PageLaws.{puts_both, puts_fails, prints_err}
 use Rattle.report_lines.specs.Lines.{stream_text, source_text}
@@ -52,7 +53,7 @@ module _ (a b c : Seen) (p q r line : List ℕ) where
         prints_err Q result a c p r (stream_texts 1 xs) failed
         (puts_fails a b c p q (stream_texts 1 (take i xs)) line rest (stream_texts 1 xs) whole first part)
 
-  module _ (xs : List SourceBooks) (i : ℕ) (x : SourceBooks) (there : Some x ≡ slice_get xs i)
+  module _ (xs : List SourceLine) (i : ℕ) (x : SourceLine) (there : Some x ≡ slice_get xs i)
       (same : line ≡ source_text x) (first : Puts a b p q (source_texts (take i xs))) where
     next_source : source_texts (take (i + 1) xs) ≡ source_texts (take i xs) ++ line
     next_source =

@@ -2,7 +2,7 @@
 use Rattle.std.specs.Prelude.{ℕ, false, true, List, [], map, reverse}
 use Rattle.wire_spec.specs.Captures.{Entry}
 use Rattle.books_spec.specs.Items.{Item}
-use Rattle.books_spec.specs.Books.{books}
+use Rattle.books_spec.specs.WholeBooks.{whole_books}
 use Rattle.books_spec.specs.declared.limits.Limits.{Limits}
 use Rattle.flow_collector.specs.Items.{item_in}
 use Rattle.report_lines.specs.Reports.{report_text}
@@ -19,7 +19,7 @@ items_in entries = reverse (map entry_item entries)
 
 -- the report of these entries under these limits
 unfoldable pub report_of : Limits → List Entry → List ℕ
-report_of limits entries = report_text (books limits (items_in entries))
+report_of limits entries = report_text (whole_books limits (items_in entries))
 
 abbrev pub replay_act : Limits → Act
 replay_act limits = record {
@@ -36,6 +36,6 @@ abbrev pub replay_task : Limits → Task
 replay_task l = record {
   line = λ number e. [];
   marks = λ e. false;
-  last = λ entries. report_text (books l (items_in entries));
+  last = λ entries. report_text (whole_books l (items_in entries));
   waits = true;
 }

@@ -3,7 +3,7 @@ ghost use Rattle.std.specs.Prelude.{◌≡◌, List};
 ghost use Rattle.text_lines.specs.Pages.{Prints};
 ghost use Rattle.books_spec.specs.Items.{Item};
 ghost use Rattle.books_spec.specs.declared.limits.Limits.{Limits};
-ghost use Rattle.books_spec.specs.Books.{books};
+ghost use Rattle.books_spec.specs.WholeBooks.{whole_books};
 ghost use Rattle.flow_collector.specs.Collectors.{StandsFor};
 ghost use Rattle.report_lines.specs.Reports.{stream_texts, source_texts, report_text};
 
@@ -19,7 +19,7 @@ pub(crate) fn put_report<K: Sink>(
     collector: &Collector,
 ) -> Result<(), Failed>
     ensures { (l : Limits) (items : List Item) → StandsFor collector.now l items
-        → Prints (K.seen sink.old) (K.seen sink.new) page.old page.new result (report_text (books l items)) }
+        → Prints (K.seen sink.old) (K.seen sink.new) page.old page.new result (report_text (whole_books l items)) }
 {
     put_streams(page, sink, collector)?;
     put_sources(page, sink, collector)?;
@@ -30,7 +30,7 @@ pub(crate) fn put_report<K: Sink>(
 fn put_streams<K: Sink>(page: &mut Page, sink: &mut K, collector: &Collector) -> Result<(), Failed>
     ensures { (l : Limits) (items : List Item) → StandsFor collector.now l items
         → Prints (K.seen sink.old) (K.seen sink.new) page.old page.new result
-        (stream_texts 1 (books l items).streams) }
+        (stream_texts 1 (whole_books l items).streams) }
 {
     for place in 0..collector.stream_count() {
         if let Some(view) = collector.stream(place) {
@@ -44,7 +44,7 @@ fn put_streams<K: Sink>(page: &mut Page, sink: &mut K, collector: &Collector) ->
 fn put_sources<K: Sink>(page: &mut Page, sink: &mut K, collector: &Collector) -> Result<(), Failed>
     ensures { (l : Limits) (items : List Item) → StandsFor collector.now l items
         → Prints (K.seen sink.old) (K.seen sink.new) page.old page.new result
-        (source_texts (books l items).sources) }
+        (source_texts (whole_books l items).sources) }
 {
     for place in 0..collector.source_count() {
         if let Some(view) = collector.source(place) {

@@ -1,2 +1,3 @@
-pub mod Steps
+mod Steps
 pub mod Sources
+pub mod Receipts

@@ -1,35 +1,38 @@
--- What is kept of a source has as many samples as the readings are that it stands for, in no later boot than theirs.
-use Rattle.std.proofs.Common.{◌≡◌, ℕ, ◌≤◌, List, length, map, refl, ◌∙◌, arith}
+-- What is kept of a source has as many samples as the boots that it stands for, and is of no later boot than theirs.
+use Rattle.std.proofs.Common.{◌≡◌, ◌≤◌, List, [], ◌∷◌, length, arith}
 use Rattle.std.specs.List.{sum_by}
-use Rattle.books_spec.specs.Views.{marks_in}
-use Rattle.books_spec.specs.Books.{mark_in}
-use Rattle.books_spec.specs.declared.reading.SampleReading.{SampleReading}
-use Rattle.source_ledger.specs.Boots as ledger
-use Rattle.source_ledger.specs.Boots.{BootsState}
-use Rattle.source_ledger.proofs.Trims.{trim-length, trim-sum, length-map, marks-length}
+use Rattle.books_spec.specs.SourceViews.{PlacedReading}
+use Rattle.source_ledger.specs.Numbers as numbers
+use Rattle.source_ledger.specs.Numbers.{NumbersState}
+use Rattle.source_ledger.proofs.Trims.{trim-length}
+use Rattle.source_ledger.proofs.GenerationCounts.{numbers-entered}
+use Rattle.source_ledger.proofs.NumberSteps.{boot-passed}
 use Rattle.stream_books.specs.Sources.{StandsFor, boot_of, entered_count}
 use Rattle.stream_books.specs.declared.source.SourceRecord.{SourceRecord}
 use Rattle.stream_books.specs.declared.source.SourceRecord.TheVariants.{Flow, Counters}
 
-ledger-entered : (l : BootsState) (readings : List (List SampleReading))
-    → ledger.StandsFor l (marks_in mark_in readings) → l.marks.entered ≡ sum_by length readings
-ledger-entered l readings st =
-    st.marks_stand.all_entered ∙ trim-sum length (marks_in mark_in readings) refl ∙ marks-length mark_in readings
-
-ledger-boot : (l : BootsState) (readings : List (List SampleReading))
-    → ledger.StandsFor l (marks_in mark_in readings) → l.boot ≤ length readings
-ledger-boot l readings st =
+numbers-boot : (l : NumbersState) (boots : List (List PlacedReading)) → numbers.StandsFor l boots → l.boot ≤ length boots
+numbers-boot l boots st =
     let is = st.boot_is in
-    let few = trim-length (marks_in mark_in readings) in
-    let same = length-map (map mark_in) readings in
-    omega (arith, is, few, same)
+    let few = trim-length boots in
+    omega (arith, is, few)
 
-pub record-entered : (s : SourceRecord) (readings : List (List SampleReading)) → StandsFor s readings
-    → entered_count s ≡ sum_by length readings
-record-entered (Flow l) readings st = ledger-entered l.numbers readings st.numbers_stand
-record-entered (Counters l) readings st = ledger-entered l readings st
+pub record-entered : (s : SourceRecord) (boots : List (List PlacedReading)) → StandsFor s boots
+    → entered_count s ≡ sum_by length boots
+record-entered (Flow l) boots st = numbers-entered l.numbers boots st.numbers_stand
+record-entered (Counters l) boots st = numbers-entered l boots st
 
-pub record-boot : (s : SourceRecord) (readings : List (List SampleReading)) → StandsFor s readings
-    → boot_of s ≤ length readings
-record-boot (Flow l) readings st = ledger-boot l.numbers readings st.numbers_stand
-record-boot (Counters l) readings st = ledger-boot l readings st
+pub record-boot : (s : SourceRecord) (boots : List (List PlacedReading)) → StandsFor s boots
+    → boot_of s ≤ length boots
+record-boot (Flow l) boots st = numbers-boot l.numbers boots st.numbers_stand
+record-boot (Counters l) boots st = numbers-boot l boots st
+
+-- a boot passes in which nothing came
+pub record-passed : (s : SourceRecord) (boots : List (List PlacedReading)) → StandsFor s boots → StandsFor s ([] ∷ boots)
+record-passed (Counters l) boots st = (boot-passed l.marks.width l boots).0 st
+record-passed (Flow l) boots st = record {
+  numbers_stand = (boot-passed l.numbers.marks.width l.numbers boots).0 st.numbers_stand;
+  pool_is = st.pool_is;
+  drops_are = st.drops_are;
+  rate_is = st.rate_is;
+}

@@ -1,11 +1,9 @@
--- What is kept of a source, and the readings over the boots of its stream for which it stands: the current boot
--- first, and in each boot the LATEST FIRST.
-use Rattle.std.specs.Prelude.{ℕ, Bool, true, false, List, map}
-use Rattle.books_spec.specs.Views.{marks_in}
-use Rattle.books_spec.specs.Books.{mark_in}
-use Rattle.books_spec.specs.declared.reading.SampleReading.{SampleReading}
-use Rattle.source_ledger.specs.Boots as boots
-use Rattle.source_ledger.specs.BootFlows as flows
+-- What is kept of a source, and the samples over the boots of its stream for which it stands: the current boot first,
+-- and in each boot the LATEST FIRST.
+use Rattle.std.specs.Prelude.{ℕ, ◌+◌, Bool, true, false, List}
+use Rattle.books_spec.specs.SourceViews.{PlacedReading}
+use Rattle.source_ledger.specs.Numbers as numbers
+use Rattle.source_ledger.specs.Flows as flows
 use Rattle.stream_books.specs.declared.source.SourceRecord.{SourceRecord}
 use Rattle.stream_books.specs.declared.source.SourceRecord.TheVariants.{Flow, Counters}
 
@@ -25,10 +23,10 @@ boot_of (Flow l) = l.numbers.boot
 boot_of (Counters l) = l.boot
 
 abbrev pub entered_count : SourceRecord → ℕ
-entered_count (Flow l) = l.numbers.marks.entered
-entered_count (Counters l) = l.marks.entered
+entered_count (Flow l) = l.numbers.marks.entered + l.numbers.stale
+entered_count (Counters l) = l.marks.entered + l.stale
 
--- it stands for these readings
-abbrev pub StandsFor : SourceRecord → List (List SampleReading) → Type 0
-StandsFor (Flow l) readings = flows.StandsFor l readings
-StandsFor (Counters l) readings = boots.StandsFor l (marks_in mark_in readings)
+-- it stands for these samples
+abbrev pub StandsFor : SourceRecord → List (List PlacedReading) → Type 0
+StandsFor (Flow l) boots = flows.StandsFor l boots
+StandsFor (Counters l) boots = numbers.StandsFor l boots

@@ -3,11 +3,11 @@ ghost use Rattle.count_spec.specs.Boots.{sequences, boot_mark, boot_place, boots
 ghost use Rattle.count_spec.specs.Windows.{answer, counted, is_newest};
 ghost use Rattle.books_spec.specs.Views.{plain_view};
 ghost use Rattle.books_spec.specs.Items.{Datagram, stamp_of};
-ghost use Rattle.books_spec.specs.Books.{taken_at, taken_of};
+ghost use Rattle.stream_books.specs.Receipts.{receipt_of, receipt_in};
 ghost use Rattle.stream_books.specs.Streams.{StandsFor, ShowsStream, IsAt, place_after};
 
 use crate::place::place_of;
-use crate::taken::taken_by;
+use crate::taken::{Receipt, receipt_by};
 use books_spec::{LedgerView, Taken};
 use count_spec::StretchPlace;
 use late_window::{Entered, Place};
@@ -54,15 +54,14 @@ impl StreamRecord {
 
     /// Takes a datagram of the stream, with its arrival and its uptime in ms and its sequence word; the boot marks of
     /// one boot may differ by the slack, in ms. Fewer than 2^62 datagrams were taken before.
-    pub fn take(&mut self, slack: u32, arrival: u64, uptime: u32, sequence: u32) -> Taken
+    pub fn take(&mut self, slack: u32, arrival: u64, uptime: u32, sequence: u32) -> Receipt
         requires few { self.old.ledger.marks.entered + self.old.stale < 2 ^ 62 }
         ensures stands { (d : Datagram) (ds : List Datagram) → IsAt d arrival uptime sequence
             → StandsFor slack self.old ds → StandsFor slack self.new (d ∷ ds) }
         ensures answer { (d : Datagram) (ds : List Datagram) → IsAt d arrival uptime sequence
             → StandsFor slack self.old ds
-            → let bs = boots stamp_of slack self.old.ledger.marks.width ds in
-            result ≡ taken_at self.old.ledger.marks.width
-            (boot_place stamp_of slack self.old.ledger.marks.width bs d) bs sequence }
+            → result ≡ receipt_in slack self.old.ledger.marks.width
+            (boots stamp_of slack self.old.ledger.marks.width ds) d }
         ensures width { self.new.ledger.marks.width ≡ self.old.ledger.marks.width }
         ensures taken { self.new.ledger.marks.entered + self.new.stale ≡ self.old.ledger.marks.entered + self.old.stale + 1 }
     {
@@ -115,7 +114,7 @@ impl StreamRecord {
     }
 
     // A datagram of the current boot.
-    fn enter(&mut self, start: i128, sequence: u32) -> Taken
+    fn enter(&mut self, start: i128, sequence: u32) -> Receipt
         requires few { self.old.ledger.marks.entered + self.old.stale < 2 ^ 62 }
         requires begun { 1 ≤ self.old.ledger.boot }
         requires from { pos 0 ≤ℤ (start +ℤ pos (2 ^ 32)) }
@@ -125,7 +124,7 @@ impl StreamRecord {
             → ShowsStream self.old (current ∷ closed) stale → ShowsStream self.new ((d ∷ current) ∷ closed) stale }
         ensures answer { (current : List Datagram) (closed : List (List Datagram)) (stale : List Datagram)
             → ShowsStream self.old (current ∷ closed) stale
-            → result ≡ taken_of (answer self.old.ledger.marks.width
+            → result ≡ receipt_of (answer self.old.ledger.marks.width
             (counted self.old.ledger.marks.width (sequences stamp_of current)) sequence) }
         ensures width { self.new.ledger.marks.width ≡ self.old.ledger.marks.width }
         ensures taken { self.new.ledger.marks.entered + self.new.stale ≡ self.old.ledger.marks.entered + self.old.stale + 1 }
@@ -133,38 +132,44 @@ impl StreamRecord {
         let boot = self.ledger.boot();
         let entered = self.ledger.enter(boot, sequence);
         self.newest = newest_of(entered, start, self.newest);
-        taken_by(entered)
+        receipt_by(entered)
     }
 
     // A datagram that begins a boot.
-    fn begin(&mut self, start: i128, sequence: u32) -> Taken
+    fn begin(&mut self, start: i128, sequence: u32) -> Receipt
         requires few { self.old.ledger.marks.entered + self.old.stale < 2 ^ 62 }
         requires from { pos 0 ≤ℤ (start +ℤ pos (2 ^ 32)) }
         requires to { start ≤ℤ pos (2 ^ 64) }
         ensures stands { (d : Datagram) (bs : List (List Datagram)) (stale : List Datagram)
             → boot_mark (stamp_of d) ≡ start → d.head.sequence ≡ sequence
             → ShowsStream self.old bs stale → ShowsStream self.new ((d ∷ []) ∷ bs) stale }
-        ensures answer { result ≡ Taken.First }
+        ensures answer { result ≡ record { taken = Taken.First; number = pos sequence } }
         ensures width { self.new.ledger.marks.width ≡ self.old.ledger.marks.width }
         ensures taken { self.new.ledger.marks.entered + self.new.stale ≡ self.old.ledger.marks.entered + self.old.stale + 1 }
     {
         let boot = self.ledger.boot() + 1;
         self.ledger.enter(boot, sequence);
         self.newest = start;
-        Taken::First
+        Receipt {
+            taken: Taken::First,
+            number: sequence as i128,
+        }
     }
 
     // A datagram of an earlier boot.
-    fn pass(&mut self) -> Taken
+    fn pass(&mut self) -> Receipt
         requires few { self.old.ledger.marks.entered + self.old.stale < 2 ^ 62 }
         ensures stands { (d : Datagram) (bs : List (List Datagram)) (stale : List Datagram)
             → ShowsStream self.old bs stale → ShowsStream self.new bs (d ∷ stale) }
-        ensures answer { result ≡ Taken.Stale }
+        ensures answer { result ≡ record { taken = Taken.Stale; number = pos 0 } }
         ensures width { self.new.ledger.marks.width ≡ self.old.ledger.marks.width }
         ensures taken { self.new.ledger.marks.entered + self.new.stale ≡ self.old.ledger.marks.entered + self.old.stale + 1 }
     {
         self.stale += 1;
-        Taken::Stale
+        Receipt {
+            taken: Taken::Stale,
+            number: 0,
+        }
     }
 }
 

@@ -20,3 +20,11 @@ returns-clause-kinds_are_apart c = refl
 pub returns-clause-of_the_second_stream : goal.returns-clause-of_the_second_stream
 unfolding digits between report_text stream_text flow_text counters_text fault_line total_text
 returns-clause-of_the_second_stream c = refl
+
+pub returns-clause-a_reset : goal.returns-clause-a_reset
+unfolding digits between report_text stream_text flow_text counters_text fault_line total_text
+returns-clause-a_reset c = refl
+
+pub returns-clause-one_from_before_it : goal.returns-clause-one_from_before_it
+unfolding digits between report_text stream_text flow_text counters_text fault_line total_text
+returns-clause-one_from_before_it c = refl

@@ -2,7 +2,7 @@
 use Rattle.std.proofs.Common.{◌≡◌, List, take}
 use Rattle.books_spec.specs.Items.{Item}
 use Rattle.books_spec.specs.declared.limits.Limits.{Limits}
-use Rattle.books_spec.specs.Books.{books}
+use Rattle.books_spec.specs.WholeBooks.{whole_books}
 use Rattle.flow_collector.specs.Collectors.{StandsFor}
 use Rattle.text_lines.specs.Pages.{Puts}
 use Rattle.report_lines.specs.Reports.{source_texts}
@@ -12,5 +12,5 @@ abbrev pub invariant-loop-place : goal.invariant-loop-place
 invariant-loop-place g l = record {
   put : (l' : Limits) (items : List Item) → StandsFor l.collector l' items
       → Puts (g.K.Sink.seen l.initial.sink) (g.K.Sink.seen l.sink) l.initial.page l.page
-      (source_texts (take l.place (books l' items).sources));
+      (source_texts (take l.place (whole_books l' items).sources));
 }

@@ -27,24 +27,24 @@ returns-in-Some-clause-stands c = λ streams arrived boots_of current closed pla
     let n = c.enter_at.ensures.now c.args.key f.0 f.1 in
     let H : List (SourceKey × SourceRecord) → Type 0 = λ es. SourcesStand streams c.args.self.now.limit c.args.width es
     (source_in streams c.args.key ∷ arrived)
-    (after_reading (source_in streams c.args.key) c.args.reading boots_of) in
+    (after_reading (source_in streams c.args.key) (record { place = c.args.at; reading = c.args.reading }) boots_of) in
     subst H (sym n.1) (known-stands streams c.args.self.now.limit c.args.width c.args.self.now.entries arrived boots_of
-    (source_in streams c.args.key) c.args.reading c.in-Some.place c.args.key f.0 n.0
-    c.enter_at.result.entered c.args.boot current closed f.1 refl is number n.2 st)
+    (source_in streams c.args.key) (record { place = c.args.at; reading = c.args.reading }) c.in-Some.place c.args.key f.0 n.0
+    c.enter_at.result.booked c.args.boot current closed f.1 refl is number n.2 st)
 
 pub returns-in-Some-clause-answer : goal.returns-in-Some-clause-answer
 returns-in-Some-clause-answer c = λ streams arrived boots_of current closed placed is number fresh st.
     let f = c.in-Some.ensures.some in
     let n = c.enter_at.ensures.now c.args.key f.0 f.1 in
     known-answer streams c.args.self.now.limit c.args.width c.args.self.now.entries arrived boots_of
-    (source_in streams c.args.key) c.args.reading c.in-Some.place c.args.key f.0 n.0
-    c.enter_at.result.entered c.args.boot current closed f.1 refl is number n.2 st
+    (source_in streams c.args.key) (record { place = c.args.at; reading = c.args.reading }) c.in-Some.place c.args.key f.0 n.0
+    c.enter_at.result.booked c.args.boot current closed f.1 refl is number n.2 st
 
 pub returns-in-Some-clause-counted : goal.returns-in-Some-clause-counted
 returns-in-Some-clause-counted c = λ streams arrived boots_of placed st.
     let f = c.in-Some.ensures.some in
     known-count streams c.args.self.now.limit c.args.width c.args.self.now.entries arrived boots_of
-    (source_in streams c.args.key) c.args.reading c.in-Some.place c.args.key f.0 f.1 refl st
+    (source_in streams c.args.key) (record { place = c.args.at; reading = c.args.reading }) c.in-Some.place c.args.key f.0 f.1 refl st
 
 pub returns-in-Some-clause-place : goal.returns-in-Some-clause-place
 returns-in-Some-clause-place c =
@@ -64,7 +64,7 @@ returns-then-is_full-clause-stands c = λ streams arrived boots_of current close
     let none : among same_key (keys_in (λ (x : SourceKey). x) c.args.self.now.entries) c.args.key ≡ false = search rules in
     let full : c.args.self.now.limit ≤ length c.args.self.now.entries = search rules in
     full-stands streams c.args.self.now.limit c.args.width c.args.self.now.entries arrived boots_of
-    (source_in streams c.args.key) c.args.reading
+    (source_in streams c.args.key) (record { place = c.args.at; reading = c.args.reading })
     (source-absent streams c.args.key c.args.self.now.entries placed st.placed none) full st
 
 pub returns-then-is_full-clause-counted : goal.returns-then-is_full-clause-counted
@@ -72,7 +72,7 @@ returns-then-is_full-clause-counted c = λ streams arrived boots_of placed st.
     let none : among same_key (keys_in (λ (x : SourceKey). x) c.args.self.now.entries) c.args.key ≡ false = search rules in
     let full : c.args.self.now.limit ≤ length c.args.self.now.entries = search rules in
     full-count streams c.args.self.now.limit c.args.width c.args.self.now.entries arrived boots_of
-    (source_in streams c.args.key) c.args.reading
+    (source_in streams c.args.key) (record { place = c.args.at; reading = c.args.reading })
     (source-absent streams c.args.key c.args.self.now.entries placed st.placed none) full st
 
 -- ---- a source that is listed now
@@ -85,11 +85,11 @@ returns-clause-stands c = λ streams arrived boots_of current closed placed is n
     let n = c.enter_new.ensures.now in
     let H : List (SourceKey × SourceRecord) → Type 0 = λ es. SourcesStand streams c.args.self.now.limit c.args.width es
     (source_in streams c.args.key ∷ arrived)
-    (after_reading (source_in streams c.args.key) c.args.reading boots_of) in
+    (after_reading (source_in streams c.args.key) (record { place = c.args.at; reading = c.args.reading }) boots_of) in
     let empty = fresh (never-arrived streams c.args.self.now.limit c.args.width c.args.self.now.entries arrived boots_of
-    (source_in streams c.args.key) c.args.reading absent room st) in
+    (source_in streams c.args.key) (record { place = c.args.at; reading = c.args.reading }) absent room st) in
     subst H (sym n.2) (new-stands streams c.args.self.now.limit c.args.width c.args.self.now.entries arrived boots_of
-    (source_in streams c.args.key) c.args.reading c.args.key n.0 n.1 c.enter_new.result.entered
+    (source_in streams c.args.key) (record { place = c.args.at; reading = c.args.reading }) c.args.key n.0 n.1 c.enter_new.result.booked
     c.args.boot current closed absent room refl is number n.3 n.4 (empty-stands n.0 (current ∷ closed) empty n.5) n.6
     placed.place st)
 
@@ -100,9 +100,9 @@ returns-clause-answer c = λ streams arrived boots_of current closed placed is n
     let room : length c.args.self.now.entries < c.args.self.now.limit = search rules in
     let n = c.enter_new.ensures.now in
     let empty = fresh (never-arrived streams c.args.self.now.limit c.args.width c.args.self.now.entries arrived boots_of
-    (source_in streams c.args.key) c.args.reading absent room st) in
+    (source_in streams c.args.key) (record { place = c.args.at; reading = c.args.reading }) absent room st) in
     new-answer streams c.args.self.now.limit c.args.width c.args.self.now.entries arrived boots_of
-    (source_in streams c.args.key) c.args.reading n.0 n.1 c.enter_new.result.entered c.args.boot current
+    (source_in streams c.args.key) (record { place = c.args.at; reading = c.args.reading }) n.0 n.1 c.enter_new.result.booked c.args.boot current
     closed number n.4 (empty-stands n.0 (current ∷ closed) empty n.5) n.6
 
 pub returns-clause-counted : goal.returns-clause-counted
@@ -110,7 +110,7 @@ returns-clause-counted c = λ streams arrived boots_of placed st.
     let none : among same_key (keys_in (λ (x : SourceKey). x) c.args.self.now.entries) c.args.key ≡ false = search rules in
     let room : length c.args.self.now.entries < c.args.self.now.limit = search rules in
     new-count streams c.args.self.now.limit c.args.width c.args.self.now.entries arrived boots_of
-    (source_in streams c.args.key) c.args.reading
+    (source_in streams c.args.key) (record { place = c.args.at; reading = c.args.reading })
     (source-absent streams c.args.key c.args.self.now.entries placed st.placed none) room st
 
 pub returns-clause-place : goal.returns-clause-place

@@ -9,8 +9,8 @@ use Rattle.collector_tables.specs.Enters.{Enters}
 use Rattle.collector_tables.proofs.Places.{same-value, entry-of}
 use Rattle.collector_tables.proofs.sources.SourceTable.enter_at.Goals as goal
 
-pub enter-entered-requires : goal.enter-entered-requires
-enter-entered-requires c =
+pub enter-booked-requires : goal.enter-booked-requires
+enter-booked-requires c =
     let entry = entry-of c.self.inside.map.entries c.args.place c.index_mut-source.result.now
     c.index_mut-source.ensures.value in
     let R : Table SourceKey SourceRecord → Type 0 = λ t. (k : SourceKey) (was : SourceRecord)
@@ -26,13 +26,13 @@ returns-clause-now c = rw (← c.self.view_is) (λ k was at.
     let same : c.index_mut-source.result.now ≡ was = same-value c.self.inside.map.entries c.args.place k was
     c.index_mut-source.result.now at c.index_mut-source.ensures.value in
     let P : SourceRecord → Type 0 =
-    λ s. Enters c.args.boot c.args.reading s c.enter-entered.new.self c.enter-entered.result in (
-      c.enter-entered.new.self,
+    λ s. Enters c.args.boot (record { place = c.args.at; reading = c.args.reading }) s c.enter-booked.new.self c.enter-booked.result in (
+      c.enter-booked.new.self,
       refl,
       subst P same (record {
-        stands = c.enter-entered.ensures.stands;
-        answered = c.enter-entered.ensures.answer;
-        kind = c.enter-entered.ensures.kind;
-        width = c.enter-entered.ensures.width;
+        stands = c.enter-booked.ensures.stands;
+        answered = c.enter-booked.ensures.answer;
+        kind = c.enter-booked.ensures.kind;
+        width = c.enter-booked.ensures.width;
       }),
     ))

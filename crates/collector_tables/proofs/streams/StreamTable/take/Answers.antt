@@ -16,18 +16,26 @@ pub returns-in-Some-clause-stands : goal.returns-in-Some-clause-stands
 returns-in-Some-clause-stands c = λ l items d streams width slack key is st.
     let f = c.in-Some.ensures.some in
     let n = c.take_at.ensures.now f.0 f.1 f.2 in
-    let T : ℕ → Type 0 = λ s. Takes s c.args.arrival c.args.uptime c.args.sequence f.1 n.0 c.take_at.result.taken in
+    let T : ℕ → Type 0 = λ s. Takes s c.args.arrival c.args.uptime c.args.sequence f.1 n.0 c.take_at.result.receipt in
     let H : List (StreamKey × StreamState) → Type 0 = λ es. StreamsStand l es (Got d ∷ items) in
     subst H (sym n.1) (known-stands l c.args.self.now.entries items d c.in-Some.place f.0 f.1 n.0 c.args.arrival
-    c.args.uptime c.args.sequence c.take_at.result.taken f.2 (f.3 ∙ key) is (subst T (sym slack) n.2) st)
+    c.args.uptime c.args.sequence c.take_at.result.receipt f.2 (f.3 ∙ key) is (subst T (sym slack) n.2) st)
 
 pub returns-in-Some-clause-answer : goal.returns-in-Some-clause-answer
 returns-in-Some-clause-answer c = λ l items d streams width slack key is st.
     let f = c.in-Some.ensures.some in
     let n = c.take_at.ensures.now f.0 f.1 f.2 in
-    let T : ℕ → Type 0 = λ s. Takes s c.args.arrival c.args.uptime c.args.sequence f.1 n.0 c.take_at.result.taken in
-    known-answer l c.args.self.now.entries items d c.in-Some.place f.0 f.1 n.0 c.args.arrival
-    c.args.uptime c.args.sequence c.take_at.result.taken f.2 (f.3 ∙ key) is (subst T (sym slack) n.2) st
+    let T : ℕ → Type 0 = λ s. Takes s c.args.arrival c.args.uptime c.args.sequence f.1 n.0 c.take_at.result.receipt in
+    (known-answer l c.args.self.now.entries items d c.in-Some.place f.0 f.1 n.0 c.args.arrival
+    c.args.uptime c.args.sequence c.take_at.result.receipt f.2 (f.3 ∙ key) is (subst T (sym slack) n.2) st).0
+
+pub returns-in-Some-clause-number : goal.returns-in-Some-clause-number
+returns-in-Some-clause-number c = λ l items d streams width slack key is st.
+    let f = c.in-Some.ensures.some in
+    let n = c.take_at.ensures.now f.0 f.1 f.2 in
+    let T : ℕ → Type 0 = λ s. Takes s c.args.arrival c.args.uptime c.args.sequence f.1 n.0 c.take_at.result.receipt in
+    (known-answer l c.args.self.now.entries items d c.in-Some.place f.0 f.1 n.0 c.args.arrival
+    c.args.uptime c.args.sequence c.take_at.result.receipt f.2 (f.3 ∙ key) is (subst T (sym slack) n.2) st).1
 
 pub returns-then-is_full-clause-stands : goal.returns-then-is_full-clause-stands
 returns-then-is_full-clause-stands c = λ l items d streams width slack key is st.
@@ -44,10 +52,10 @@ returns-clause-stands c = λ l items d streams width slack key is st.
     let room : length c.args.self.now.entries < c.args.self.now.limit = search rules in
     let n = c.take_new.ensures.now in
     let P : ℕ → Type 0 = λ m. length c.args.self.now.entries < m in
-    let T : ℕ → Type 0 = λ s. Takes s c.args.arrival c.args.uptime c.args.sequence n.0 n.1 c.take_new.result.taken in
+    let T : ℕ → Type 0 = λ s. Takes s c.args.arrival c.args.uptime c.args.sequence n.0 n.1 c.take_new.result.receipt in
     let H : List (StreamKey × StreamState) → Type 0 = λ es. StreamsStand l es (Got d ∷ items) in
     subst H (sym n.2) (new-stands l c.args.self.now.entries items d c.args.key n.0 n.1 c.args.arrival
-    c.args.uptime c.args.sequence c.take_new.result.taken none (subst P (sym streams) room) key is
+    c.args.uptime c.args.sequence c.take_new.result.receipt none (subst P (sym streams) room) key is
     (n.3 ∙ sym width) (n.4 l.boot_slack) (subst T (sym slack) n.5) st)
 
 pub returns-clause-answer : goal.returns-clause-answer
@@ -57,10 +65,22 @@ returns-clause-answer c = λ l items d streams width slack key is st.
     let room : length c.args.self.now.entries < c.args.self.now.limit = search rules in
     let n = c.take_new.ensures.now in
     let P : ℕ → Type 0 = λ m. length c.args.self.now.entries < m in
-    let T : ℕ → Type 0 = λ s. Takes s c.args.arrival c.args.uptime c.args.sequence n.0 n.1 c.take_new.result.taken in
-    new-answer l c.args.self.now.entries items d c.args.key n.0 n.1 c.args.arrival
-    c.args.uptime c.args.sequence c.take_new.result.taken none (subst P (sym streams) room) key is
-    (n.3 ∙ sym width) (n.4 l.boot_slack) (subst T (sym slack) n.5) st
+    let T : ℕ → Type 0 = λ s. Takes s c.args.arrival c.args.uptime c.args.sequence n.0 n.1 c.take_new.result.receipt in
+    (new-answer l c.args.self.now.entries items d c.args.key n.0 n.1 c.args.arrival
+    c.args.uptime c.args.sequence c.take_new.result.receipt none (subst P (sym streams) room) key is
+    (n.3 ∙ sym width) (n.4 l.boot_slack) (subst T (sym slack) n.5) st).0
+
+pub returns-clause-number : goal.returns-clause-number
+returns-clause-number c = λ l items d streams width slack key is st.
+    let none : among same_stream (keys_in stream_in c.args.self.now.entries) (stream_in c.args.key) ≡ false =
+    search rules in
+    let room : length c.args.self.now.entries < c.args.self.now.limit = search rules in
+    let n = c.take_new.ensures.now in
+    let P : ℕ → Type 0 = λ m. length c.args.self.now.entries < m in
+    let T : ℕ → Type 0 = λ s. Takes s c.args.arrival c.args.uptime c.args.sequence n.0 n.1 c.take_new.result.receipt in
+    (new-answer l c.args.self.now.entries items d c.args.key n.0 n.1 c.args.arrival
+    c.args.uptime c.args.sequence c.take_new.result.receipt none (subst P (sym streams) room) key is
+    (n.3 ∙ sym width) (n.4 l.boot_slack) (subst T (sym slack) n.5) st).1
 
 pub returns-in-Some-clause-place : goal.returns-in-Some-clause-place
 returns-in-Some-clause-place c =

@@ -8,8 +8,8 @@ use Rattle.collector_tables.specs.Takes.{Takes}
 use Rattle.collector_tables.proofs.Places.{same-value, entry-of}
 use Rattle.collector_tables.proofs.streams.StreamTable.take_at.Goals as goal
 
-pub take-taken-requires : goal.take-taken-requires
-take-taken-requires c =
+pub take-receipt-requires : goal.take-receipt-requires
+take-receipt-requires c =
     let entry = entry-of c.self.inside.map.entries c.args.place c.index_mut-stream.result.now
     c.index_mut-stream.ensures.value in
     let R : Table StreamKey StreamState → Type 0 = λ t. (k : StreamKey) (was : StreamState)
@@ -24,13 +24,13 @@ returns-clause-now c = rw (← c.self.view_is) (λ k was at.
     let same : c.index_mut-stream.result.now ≡ was = same-value c.self.inside.map.entries c.args.place k was
     c.index_mut-stream.result.now at c.index_mut-stream.ensures.value in
     let P : StreamState → Type 0 =
-    λ s. Takes c.args.slack c.args.arrival c.args.uptime c.args.sequence s c.take-taken.new.self c.take-taken.result in (
-      c.take-taken.new.self,
+    λ s. Takes c.args.slack c.args.arrival c.args.uptime c.args.sequence s c.take-receipt.new.self c.take-receipt.result in (
+      c.take-receipt.new.self,
       refl,
       subst P same (record {
-        stands = c.take-taken.ensures.stands;
-        answered = c.take-taken.ensures.answer;
-        width = c.take-taken.ensures.width;
+        stands = c.take-receipt.ensures.stands;
+        answered = c.take-receipt.ensures.answer;
+        width = c.take-receipt.ensures.width;
       }),
       c.boots.ensures.value,
     ))

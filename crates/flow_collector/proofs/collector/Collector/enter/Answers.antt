@@ -1,6 +1,7 @@
-use Rattle.std.proofs.Common.{◌≡◌, ◌∙◌, ℕ, ◌+◌, ◌≤◌, Bool, true, false, if◌then◌else◌, ◌∷◌, length, sym, ap, subst, arith}
+use Rattle.std.proofs.Common.{◌≡◌, ◌∙◌, ℕ, ◌+◌, ◌≤◌, Bool, true, false, if◌then◌else◌, ◌∷◌, length, refl, sym, ap, subst, arith}
 use Rattle.std.specs.Option.{is_some}
 use Rattle.books_spec.specs.declared.limits.Limits.{Limits}
+use Rattle.books_spec.specs.declared.sample_place.SamplePlace.{SamplePlace}
 use Rattle.books_spec.specs.Items.{Of, Datagram, Got, stream_of}
 use Rattle.books_spec.specs.Books.{listed_streams, stream_boots}
 use Rattle.collector_tables.specs.declared.keys.SourceKey.{SourceKey}
@@ -12,7 +13,7 @@ use Rattle.flow_collector.proofs.Counts.{source-kept, sources-few}
 use Rattle.flow_collector.proofs.Found.{stream-found}
 use Rattle.flow_collector.proofs.Kept.{boots-some, unlisted_samples-few}
 use Rattle.flow_collector.proofs.Lists.{length-last}
-use Rattle.flow_collector.proofs.Enters.{EnterStep, enters-stands}
+use Rattle.flow_collector.proofs.Enters.{EnterStep, reading_at, enters-stands}
 use Rattle.flow_collector.proofs.collector.Collector.enter.Goals as goal
 
 pub enter-entered-requires-clause-ready : goal.enter-entered-requires-clause-ready
@@ -22,16 +23,16 @@ enter-entered-requires-clause-ready c = λ p was at.
     let l : Limits = c.args.self.now.limits in
     let d : Datagram = mid.datagram in
     let key : SourceKey =
-    record { stream = c.args.place; kind = c.args.shown.kind; source = c.args.shown.source } in
-    let most : length d.samples ≤ 8191 = let few = mid.few in omega (arith, few) in
+    record { stream = c.args.found.now.place; kind = c.args.shown.kind; source = c.args.shown.source } in
+    let most : length d.samples ≤ 8191 = let count = mid.index_is in omega (arith, count, c.requires.few) in
     let P : CollectorState → Type 0 = λ t. StandsFor t l (Got d ∷ mid.items) in
     let st : StandsFor s l (Got d ∷ mid.items) = subst P (sym c.self.view_is) mid.stands in
     let kept = source-kept l (Got d ∷ mid.items) s.sources.entries p key was at st.sources_stand in
     let all = sources-few l (Got d ∷ mid.items) (most, mid.few_samples) in
     let few = mid.few_entries in
-    let number : c.args.boot ≡ boot_number l mid.items d = mid.enters.found.boot_is in
-    let this = stream-found (listed_streams l (Got d ∷ mid.items)) c.args.place (stream_of d) mid.enters.found.at in
-    let boots : length (stream_boots l (stream_at (listed_streams l (Got d ∷ mid.items)) c.args.place) (Got d ∷ mid.items))
+    let number : c.args.found.now.boot ≡ boot_number l mid.items d = mid.enters.found.boot_is in
+    let this = stream-found (listed_streams l (Got d ∷ mid.items)) c.args.found.now.place (stream_of d) mid.enters.found.at in
+    let boots : length (stream_boots l (stream_at (listed_streams l (Got d ∷ mid.items)) c.args.found.now.place) (Got d ∷ mid.items))
     ≡ boot_number l mid.items d = ap (λ x. length (stream_boots l x (Got d ∷ mid.items))) this in
     let boot = kept.0 in
     let entered = kept.1 in
@@ -41,7 +42,7 @@ pub enter-entered-requires-clause-boot_counts : goal.enter-entered-requires-clau
 enter-entered-requires-clause-boot_counts c =
     let mid = c.requires.midway in
     let l : Limits = c.args.self.now.limits in
-    let number : c.args.boot ≡ boot_number l mid.items mid.datagram = mid.enters.found.boot_is in
+    let number : c.args.found.now.boot ≡ boot_number l mid.items mid.datagram = mid.enters.found.boot_is in
     let some = boots-some l mid.items mid.datagram mid.enters.first in
     omega (arith, number, some)
 
@@ -60,16 +61,18 @@ overflow_add-self c =
 
 pub returns : goal.returns
 returns c = record {
-  stands = λ l items d enters st.
+  stands = λ l items d enters same st.
       let s : CollectorState = collector_state c.self.inside in
       let P : CollectorState → Type 0 = λ t. StandsFor t l (Got d ∷ items) in
       let key : SourceKey =
-      record { stream = c.args.place; kind = c.args.shown.kind; source = c.args.shown.source } in
-      let step : EnterStep s.sources.entries c.enter-entered.new.self.entries key c.args.shown.reading c.args.boot
-      (is_some c.enter-entered.result) s.sources.limit s.limits.sample_width =
-      record { stands = c.enter-entered.ensures.stands; counted = c.enter-entered.ensures.counted } in
-      enters-stands s l items d key c.args.shown.reading c.enter-entered.new.self (is_some c.enter-entered.result) _
-      c.args.boot enters step (ap (λ n. s.totals.unlisted_samples + n)
+      record { stream = c.args.found.now.place; kind = c.args.shown.kind; source = c.args.shown.source } in
+      let E : SamplePlace → Type 0 = λ place. EnterStep s.sources.entries c.enter-entered.new.self.entries key
+      (record { place = place; reading = c.args.shown.reading }) c.args.found.now.boot
+      (is_some c.enter-entered.result) s.sources.limit s.limits.sample_width in
+      let step : E (reading_at c.args.found.now c.args.index c.args.shown.reading).place = subst E c.place_at-at.ensures
+      (record { stands = c.enter-entered.ensures.stands; counted = c.enter-entered.ensures.counted }) in
+      enters-stands s l items d c.args.found.now c.args.index key c.args.shown.reading c.enter-entered.new.self
+      (is_some c.enter-entered.result) _ refl same enters step (ap (λ n. s.totals.unlisted_samples + n)
       (c.none_count.ensures ∙ ap (λ b. if b then 0 else 1) c.is_some.ensures)) c.enter-entered.ensures.limit
       (subst P (sym c.self.view_is) st);
 }
@@ -78,23 +81,25 @@ pub invariant_of-self : goal.invariant_of-self
 invariant_of-self c =
     let s : CollectorState = collector_state c.self.inside in
     let v = c.self.invariant in
-    let M : CollectorState → Type 0 = λ t. Midway t c.args.place c.args.boot 8190 in
+    let M : CollectorState → Type 0 = λ t. Midway t c.args.found.now c.args.index in
     let mid = subst M (sym c.self.view_is) c.requires.midway in
     let d : Datagram = mid.datagram in
     let key : SourceKey =
-    record { stream = c.args.place; kind = c.args.shown.kind; source = c.args.shown.source } in
-    let step : EnterStep s.sources.entries c.enter-entered.new.self.entries key c.args.shown.reading c.args.boot
-    (is_some c.enter-entered.result) s.sources.limit s.limits.sample_width =
-    record { stands = c.enter-entered.ensures.stands; counted = c.enter-entered.ensures.counted } in
+    record { stream = c.args.found.now.place; kind = c.args.shown.kind; source = c.args.shown.source } in
+    let E : SamplePlace → Type 0 = λ place. EnterStep s.sources.entries c.enter-entered.new.self.entries key
+    (record { place = place; reading = c.args.shown.reading }) c.args.found.now.boot
+    (is_some c.enter-entered.result) s.sources.limit s.limits.sample_width in
+    let step : E (reading_at c.args.found.now c.args.index c.args.shown.reading).place = subst E c.place_at-at.ensures
+    (record { stands = c.enter-entered.ensures.stands; counted = c.enter-entered.ensures.counted }) in
     let longer = length-last d.samples (Of (id_shown c.args.shown) c.args.shown.reading) in
-    let few = mid.few in
+    let count = mid.index_is in
     let room = mid.few_entries in
     record {
       within = v.within;
       items = Got (with_sample d (Of (id_shown c.args.shown) c.args.shown.reading)) ∷ mid.items;
-      stands = enters-stands s s.limits mid.items d key c.args.shown.reading c.enter-entered.new.self
-          (is_some c.enter-entered.result) _ c.args.boot mid.enters step
+      stands = enters-stands s s.limits mid.items d c.args.found.now c.args.index key c.args.shown.reading
+          c.enter-entered.new.self (is_some c.enter-entered.result) _ refl mid.index_is mid.enters step
           (ap (λ n. s.totals.unlisted_samples + n) (c.none_count.ensures ∙ ap (λ b. if b then 0 else 1) c.is_some.ensures)) c.enter-entered.ensures.limit mid.stands;
-      few_samples = (omega (arith, longer, few), mid.few_samples);
+      few_samples = (omega (arith, longer, count, c.requires.few), mid.few_samples);
       few_entries = omega (arith, room);
     }

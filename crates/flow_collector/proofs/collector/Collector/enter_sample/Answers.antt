@@ -19,29 +19,29 @@ pub invariant_of-self : goal.invariant_of-self
 invariant_of-self c =
     let s : CollectorState = collector_state c.self.inside in
     let v = c.self.invariant in
-    let M : CollectorState → Type 0 = λ t. Midway t c.args.place c.args.boot 8190 in
+    let M : CollectorState → Type 0 = λ t. Midway t c.args.found.now c.args.index in
     let mid = subst M (sym c.self.view_is) c.requires.midway in
     let longer = length-last mid.datagram.samples Other in
-    let few = mid.few in
+    let count = mid.index_is in
     let room = mid.few_entries in
     record {
       within = v.within;
       items = Got (with_sample mid.datagram Other) ∷ mid.items;
       stands = other-stands s s.limits mid.items mid.datagram mid.enters.first mid.stands;
-      few_samples = (omega (arith, longer, few), mid.few_samples);
+      few_samples = (omega (arith, longer, count, c.requires.few), mid.few_samples);
       few_entries = omega (arith, room);
     }
 
 pub returns-in-Some : goal.returns-in-Some
 returns-in-Some c = record {
-  stands = λ l items d f enters of_frame st.
+  stands = λ l items d f enters same of_frame st.
       let P : Sample → Type 0 = λ x. StandsFor c.enter.new.self l (Got (with_sample d x) ∷ items) in
-      subst P (c.in-Some.ensures f of_frame) (c.enter.ensures.stands l items d enters st);
+      subst P (c.in-Some.ensures f of_frame) (c.enter.ensures.stands l items d enters same st);
 }
 
 pub returns-in-None : goal.returns-in-None
 returns-in-None c = record {
-  stands = λ l items d f enters of_frame st.
+  stands = λ l items d f enters same of_frame st.
       let s : CollectorState = collector_state c.self.inside in
       let S : CollectorState → Type 0 = λ t. StandsFor t l (Got d ∷ items) in
       let now = other-stands s l items d enters.first (subst S (sym c.self.view_is) st) in

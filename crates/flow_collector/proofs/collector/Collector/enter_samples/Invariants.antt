@@ -5,7 +5,7 @@ use Rattle.flow_collector.proofs.collector.Collector.enter_samples.Given as goal
 
 abbrev pub invariant-loop-head : goal.invariant-loop-head
 invariant-loop-head l = record {
-  so_far : SoFar l.initial.self l.self l.initial.place l.initial.boot l.initial.samples l.samples;
+  so_far : SoFar l.initial.self l.self l.initial.found l.index l.initial.samples l.samples;
 }
 
 abbrev pub decreases-loop-head : goal.decreases-loop-head

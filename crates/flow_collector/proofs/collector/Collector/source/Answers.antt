@@ -28,8 +28,8 @@ overflow_add-result c =
     let few = v.within.streams in
     omega (arith, less, few)
 
-pub view-requires : goal.view-requires
-view-requires c =
+pub view-view-requires : goal.view-view-requires
+view-view-requires c =
     let s : CollectorState = collector_state c.self.inside in
     let v = c.self.invariant in
     let kept = source-kept s.limits v.items s.sources.entries c.args.place c.in_ok-key.key.now c.in_ok-key.source.now
@@ -52,9 +52,9 @@ returns-clause-view c = λ l items st.
         class = c.in_ok-key.key.now.source.class;
         index = c.in_ok-key.key.now.source.index;
       };
-      view = c.view.result;
+      view = c.view-view.result;
     })) ∙ source-shown l items s.sources.entries c.args.place c.in_ok-key.key.now c.in_ok-key.source.now c.boots.result _
     c.in_ok-key.ensures.some
     (c.boots.ensures.value ∙ boots-at-place l s.streams.entries items c.in_ok-key.key.now.stream _ _
     c.in_ok-stream.ensures.some stands.streams_stand)
-    c.view.ensures.view stands.sources_stand
+    c.view-view.ensures.view stands.sources_stand

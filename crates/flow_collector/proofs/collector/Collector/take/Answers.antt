@@ -31,8 +31,8 @@ enter_samples-requires-clause-midway c =
     let answer = ap answer_in_books (sym c.in-Some.is) ∙ c.take_head.ensures.answer s.limits v.items d key at st in
     let found = found-at s.limits v.items d c.take_head.result c.in-Some.found c.in-Some.is
     (c.take_head.ensures.found s.limits v.items d key at st) in
-    may-enter c.take_head.new.self s.limits v.items c.in-Some.found.place c.in-Some.found.boot d
-    (record { found = found; first = sym answer ∙ first-is c.in-Some.found.taken (sym c.if-is_entered.ensures) })
+    may-enter c.take_head.new.self s.limits v.items c.in-Some.found d
+    (record { found = found; first = sym answer ∙ first-is c.in-Some.found.receipt.taken (sym c.if-is_entered.ensures) })
     (c.take_head.ensures.stands s.limits v.items d key at st) v.few_samples room
 
 pub returns-then-is_entered-clause-stands : goal.returns-then-is_entered-clause-stands
@@ -48,7 +48,7 @@ returns-then-is_entered-clause-stands c = λ l items few st.
     (c.take_head.ensures.found l items d key at st) in
     subst P (sym (datagram-in-tree c.args.at c.args.datagram.now)) (subst F c.samples.ensures.exact
     (c.enter_samples.ensures.stands l items d
-    (record { found = found; first = sym answer ∙ first-is c.in-Some.found.taken (sym c.if-is_entered.ensures) })
+    (record { found = found; first = sym answer ∙ first-is c.in-Some.found.receipt.taken (sym c.if-is_entered.ensures) })
     (c.take_head.ensures.stands l items d key at st)))
 
 pub returns-then-is_entered-clause-answer : goal.returns-then-is_entered-clause-answer
@@ -58,36 +58,36 @@ returns-then-is_entered-clause-answer c = λ l items st.
     let key = key-stream c.args.at c.args.datagram.now c.head-head.result c.head-head.ensures in
     let at = is-at c.args.at c.args.datagram.now c.head-head.result c.head-head.ensures in
     let d : Datagram = datagram_at c.args.at c.args.datagram.now in
-    let P : Datagram → Type 0 = λ x. c.in-Some.found.taken ≡ taken l items (Got x) in
+    let P : Datagram → Type 0 = λ x. c.in-Some.found.receipt.taken ≡ taken l items (Got x) in
     let answer = ap answer_in_books (sym c.in-Some.is) ∙ c.take_head.ensures.answer l items d key at st in
     subst P (sym (datagram-in-tree c.args.at c.args.datagram.now))
-    (answered s l items (Got d) c.in-Some.found.taken (subst S (sym c.self.view_is) st)
+    (answered s l items (Got d) c.in-Some.found.receipt.taken (subst S (sym c.self.view_is) st)
     c.if-self-ge-MOST_ENTRIES.false answer)
 
 -- ---- one of a listed stream that isn't
 
-pub returns-else-is_entered-clause-stands : goal.returns-else-is_entered-clause-stands
-returns-else-is_entered-clause-stands c = λ l items few st.
+pub returns-clause-stands : goal.returns-clause-stands
+returns-clause-stands c = λ l items few st.
     let key = key-stream c.args.at c.args.datagram.now c.head-head.result c.head-head.ensures in
     let at = is-at c.args.at c.args.datagram.now c.head-head.result c.head-head.ensures in
     let d : Datagram = datagram_at c.args.at c.args.datagram.now in
     let P : Datagram → Type 0 = λ x. StandsFor c.take_head.new.self l (Got x ∷ items) in
     let answer = ap answer_in_books (sym c.in-Some.is) ∙ c.take_head.ensures.answer l items d key at st in
     subst P (sym (datagram-in-tree c.args.at c.args.datagram.now))
-    (passes c.take_head.new.self l items d c.in-Some.found.taken (sym c.is_entered.ensures ∙ c.if-is_entered.false) answer
+    (passes c.take_head.new.self l items d c.in-Some.found.receipt.taken (sym c.is_entered.ensures ∙ c.if-is_entered.false) answer
     (c.take_head.ensures.stands l items d key at st))
 
-pub returns-else-is_entered-clause-answer : goal.returns-else-is_entered-clause-answer
-returns-else-is_entered-clause-answer c = λ l items st.
+pub returns-clause-answer : goal.returns-clause-answer
+returns-clause-answer c = λ l items st.
     let s : CollectorState = collector_state c.self.inside in
     let S : CollectorState → Type 0 = λ t. StandsFor t l items in
     let key = key-stream c.args.at c.args.datagram.now c.head-head.result c.head-head.ensures in
     let at = is-at c.args.at c.args.datagram.now c.head-head.result c.head-head.ensures in
     let d : Datagram = datagram_at c.args.at c.args.datagram.now in
-    let P : Datagram → Type 0 = λ x. c.in-Some.found.taken ≡ taken l items (Got x) in
+    let P : Datagram → Type 0 = λ x. c.in-Some.found.receipt.taken ≡ taken l items (Got x) in
     let answer = ap answer_in_books (sym c.in-Some.is) ∙ c.take_head.ensures.answer l items d key at st in
     subst P (sym (datagram-in-tree c.args.at c.args.datagram.now))
-    (answered s l items (Got d) c.in-Some.found.taken (subst S (sym c.self.view_is) st)
+    (answered s l items (Got d) c.in-Some.found.receipt.taken (subst S (sym c.self.view_is) st)
     c.if-self-ge-MOST_ENTRIES.false answer)
 
 -- ---- one of a stream that isn't listed

@@ -42,7 +42,8 @@ returns-clause-stands c = λ l items d key at st.
     let answer = c.take-found.ensures.answer l items d (sym stands.stream_limit) width slack key at stands.streams_stand in
     let now = c.take-found.ensures.stands l items d (sym stands.stream_limit) width slack key at stands.streams_stand in
     let found = some-found l items d c.take-found.new.self.entries c.args.stream c.take-found.result
-    c.take-found.ensures.place key now in
+    c.take-found.ensures.place
+    (c.take-found.ensures.number l items d (sym stands.stream_limit) width slack key at stands.streams_stand) key now in
     head-stands s l items d c.take-found.new.self (answer_in_books c.take-found.result) _ answer
     (ap (λ n. s.totals.unlisted + n) (c.none_count.ensures ∙ ap (λ b. if b then 0 else 1) c.is_some.ensures ∙ none-is-unlisted l items d c.take-found.result answer found))
     c.take-found.ensures.limit now stands
@@ -55,7 +56,8 @@ returns-clause-found c = λ l items d key at st.
     let width = ap (λ (x : Limits). x.datagram_width) (sym stands.limits_are) in
     let slack = ap (λ (x : Limits). x.boot_slack) (sym stands.limits_are) in
     let now = c.take-found.ensures.stands l items d (sym stands.stream_limit) width slack key at stands.streams_stand in
-    some-found l items d c.take-found.new.self.entries c.args.stream c.take-found.result c.take-found.ensures.place key now
+    some-found l items d c.take-found.new.self.entries c.args.stream c.take-found.result c.take-found.ensures.place
+    (c.take-found.ensures.number l items d (sym stands.stream_limit) width slack key at stands.streams_stand) key now
 
 pub invariant_of-self : goal.invariant_of-self
 invariant_of-self c =
@@ -80,7 +82,8 @@ invariant_of-self c =
     let now = c.take-found.ensures.stands s.limits v.items d (sym v.stands.stream_limit) refl refl refl
     (refl, refl, refl) v.stands.streams_stand in
     let found = some-found s.limits v.items d c.take-found.new.self.entries c.args.stream c.take-found.result
-    c.take-found.ensures.place refl now in
+    c.take-found.ensures.place (c.take-found.ensures.number s.limits v.items d (sym v.stands.stream_limit) refl refl refl
+    (refl, refl, refl) v.stands.streams_stand) refl now in
     record {
       within = v.within;
       items = Got d ∷ v.items;
