@@ -1,5 +1,5 @@
-//! The sub-agents of a sampling agent: packets are observed and counters polled, samples wait in a stage, and a send
-//! puts them as datagrams into an outlet (sFlow Version 5, section 5).
+//! The sub-agents of a sampling agent: packets are observed and counters polled, and samples wait in a stage for a
+//! datagram (sFlow Version 5, section 5).
 #![tactic(auto)]
 
 mod ids;
@@ -14,8 +14,6 @@ mod setup;
 mod sources;
 mod staged;
 mod sub_agent;
-#[cfg(test)]
-mod tests;
 
 pub use data_format::{Address, Failed, Form, Port, SourceId};
 pub use list_outlet::{ListOutlet, Put};
