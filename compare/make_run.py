@@ -1,5 +1,6 @@
 #!/usr/bin/env python3
-"""Makes a capture for comparisons of reports: datagrams of agents that restart, lost, repeated and out of order.
+"""Makes a capture for comparisons of reports: datagrams of agents that restart and that reset single sources, lost, repeated
+and out of order.
 
     compare/make_run.py SEED DATAGRAMS > CAPTURE
 
@@ -28,7 +29,9 @@ class Agent:
     def sample(self):
         kind, index = self.rng.choice(list(self.samples))
         state = self.samples[kind, index]
-        state[0] += 1 if self.rng.random() < 0.9 else self.rng.choice((2, 70, 1100))
+        if self.rng.random() < 0.02:
+            state[:] = [self.rng.choice((0, state[0] - 2, (1 << 32) - 4)), self.rng.randrange(1 << 32), 0]
+        state[0] += 1 if self.rng.random() < 0.9 else self.rng.choice((2, 70, 1100, 8190))
         state[1] += self.rng.randrange(1 << self.rng.choice((4, 10, 31)))
         state[2] += self.rng.random() < 0.1
         if self.rng.random() < 0.1:

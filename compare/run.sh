@@ -51,5 +51,8 @@ for capture in examples/*.sflc "$folder"/run-*.sflc; do
   report "$capture" 4 9 8 16 100
   report "$capture" 6 40 1 1 30000
   report "$capture" 256 4096 1024 64 1073741824
+  report "$capture" 256 4096 8192 8192 5000
+  report "$capture" 256 4096 2 8191 5000
+  report "$capture" 256 4096 63 65 5000
 done
 exit $status
