@@ -1,15 +1,20 @@
 #!/usr/bin/env python3
 """A second collector, written from docs/PROMISES.md alone, to compare `sflow replay` with.
 
-    compare/collect.py STREAMS SOURCES DATAGRAM_WIDTH SAMPLE_WIDTH BOOT_SLACK < CAPTURE
+    compare/collect.py STREAMS SOURCES DATAGRAM_WIDTH SAMPLE_WIDTH BOOT_SLACK [--interfaces] < CAPTURE
 
-Prints what `sflow replay` is to print for a lawful capture under these limits. It keeps all counted numbers.
+Prints what `sflow replay` is to print for a lawful capture under these limits, with `--interfaces` or without. It keeps all
+counted numbers.
 """
 import sys
 
 from decode import Fault, datagram, entries
 
 WORD = 1 << 32
+
+# Where the thirteen counters stand among the fields of a record of interface counters; those of bytes have 64 bits.
+COUNTERS = {place: WORD for place in range(5, 18)}
+COUNTERS[5] = COUNTERS[12] = WORD * WORD
 
 
 class Window:
@@ -26,7 +31,7 @@ class Window:
 
     def enter(self, mark, *values):
         if not self.counted:
-            self.counted[mark] = values
+            self.last, self.counted[mark] = mark, values
             return True
         top, least = max(self.counted), min(self.counted)
         number = self.number(mark)
@@ -41,7 +46,7 @@ class Window:
                 self.rises[place] += (values[place] - self.counted[top][place]) % WORD
             elif number < least:
                 self.rises[place] += (self.counted[least][place] - values[place]) % WORD
-        self.counted[number] = values
+        self.last, self.counted[number] = number, values
         return True
 
     def figures(self, closed):
@@ -85,6 +90,23 @@ class Generation:
 
     def __init__(self, width, place):
         self.window, self.opened, self.newest = Window(width), place, place
+        self.interfaces = {}
+
+    def rise(self, place):
+        """By how much the counter at this place rose, from the least number that showed it to the greatest one."""
+        least = top = None
+        total = 0
+        for number, fields in self.interfaces.items():
+            value = fields[place]
+            if top is None:
+                least = top = (number, value)
+            elif number > top[0]:
+                total += (value - top[1]) % COUNTERS[place]
+                top = (number, value)
+            elif number < least[0]:
+                total += (least[1] - value) % COUNTERS[place]
+                least = (number, value)
+        return total
 
 
 class Source:
@@ -99,7 +121,7 @@ class Source:
             self.boots.append([])
         return self.boots[-1]
 
-    def enter(self, place, mark, *values):
+    def enter(self, place, mark, interface, *values):
         current = self.generations()
         if not current or current[-1].newest < place and current[-1].window.number(mark) <= max(current[-1].window.counted):
             current.append(Generation(self.width, place))
@@ -108,6 +130,16 @@ class Source:
             return
         if current[-1].window.enter(mark, *values):
             current[-1].newest = max(current[-1].newest, place)
+            if interface:
+                current[-1].interfaces[current[-1].window.last] = interface
+
+    def interface_lines(self):
+        generations = [generation for boot in self.boots for generation in boot]
+        samples = sum(len(generation.interfaces) for generation in generations)
+        rises = [str(sum(generation.rise(place) for generation in generations)) for place in COUNTERS]
+        if not samples:
+            return []
+        return [f"if {self.number} {self.name} samples {samples} in {' '.join(rises[:7])} out {' '.join(rises[7:])}"]
 
     def line(self):
         is_open = bool(self.generations())
@@ -121,11 +153,32 @@ class Source:
         return f"{line} pool {pool} drops {drops} rate {counted[max(counted)][2]}"
 
 
+def records_of(lines):
+    """The lines of records behind each sample's line."""
+    records = []
+    for line in lines:
+        if line.startswith("  "):
+            records[-1].append(line)
+        else:
+            records.append([])
+    return records
+
+
+def first_interface(records):
+    """The fields of the first record of interface counters, or None."""
+    for record in records:
+        name, *fields = record.split()
+        if name == "if":
+            return [int(field) for field in fields[:19]]
+    return None
+
+
 def main():
-    most_streams, most_sources, datagram_width, sample_width, slack = map(int, sys.argv[1:])
+    limits = [word for word in sys.argv[1:] if word != "--interfaces"]
+    most_streams, most_sources, datagram_width, sample_width, slack = map(int, limits)
     streams, sources, first_fault = {}, {}, None
     total = dict.fromkeys(("entries", "malformed", "unlisted", "unlisted_samples", "other"), 0)
-    for arrival, data in entries(sys.stdin.buffer.read()):
+    for arrival, _, data in entries(sys.stdin.buffer.read()):
         total["entries"] += 1
         try:
             head, *lines = datagram(data, False)
@@ -144,6 +197,7 @@ def main():
         # A sample stands at the number of its datagram and at its index among all samples of the datagram.
         number_of_datagram = stream.boots[-1].number(int(words[6]))
         samples = [line for line in lines if not line.startswith("  ")]
+        records = records_of(lines)
         for index, line in enumerate(samples):
             words = line.split()
             if words[0] == "sample":
@@ -157,13 +211,18 @@ def main():
             number = list(streams).index(key) + 1
             source = sources.setdefault(name, Source(number, stream, words[4], flow, sample_width))
             shown = [int(words[place]) for place in (8, 10, 6)] if flow else []
-            source.enter((number_of_datagram, index), int(words[2]), *shown)
+            interface = None if flow else first_interface(records[index])
+            source.enter((number_of_datagram, index), int(words[2]), interface, *shown)
     for number, stream in enumerate(streams.values(), 1):
         agent, sub_agent = stream.name
         print(f"stream {number} agent {agent} sub {sub_agent} boots {len(stream.boots)} {summed(stream.boots)}",
               f"stale {stream.stale}")
     for source in sources.values():
         print(source.line())
+    if "--interfaces" in sys.argv:
+        for source in sources.values():
+            for line in source.interface_lines():
+                print(line)
     if first_fault:
         print("fault entry {} at {} kind {}".format(*first_fault))
     print("total", " ".join(f"{name} {count}" for name, count in total.items()), "taps_ended 0")

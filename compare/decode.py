@@ -233,16 +233,28 @@ def datagram(data, zero):
 
 
 def entries(capture):
+    """The arrival, the sender (none in version 1) and the bytes of each entry."""
     at = 8
     while at < len(capture):
-        arrival, length = struct.unpack_from(">QI", capture, at)
-        yield arrival, capture[at + 12 : at + 12 + length]
+        sender = None
+        if capture[7] == 2:
+            if capture[at : at + 4] == bytes(4):
+                break
+            kind = int.from_bytes(capture[at + 12 : at + 16], "big")
+            size = (0, 4, 16)[kind]
+            port = int.from_bytes(capture[at + 16 + size : at + 20 + size], "big")
+            sender = f"{address_text(capture[at + 16 : at + 16 + size])} {port}"
+            arrival, length = struct.unpack(">QI", capture[at + 4 : at + 12] + capture[at + 20 + size : at + 24 + size])
+            at += 12 + size
+        else:
+            arrival, length = struct.unpack_from(">QI", capture, at)
+        yield arrival, sender, capture[at + 12 : at + 12 + length]
         at += 12 + length + -length % 4
 
 
 def main():
     mode, faulty, number = sys.argv[1], 0, 0
-    for number, (arrival, data) in enumerate(entries(sys.stdin.buffer.read()), 1):
+    for number, (arrival, sender, data) in enumerate(entries(sys.stdin.buffer.read()), 1):
         lines = []
         try:
             lines = datagram(data, mode == "zero")
@@ -253,7 +265,8 @@ def main():
             if mode != "show":
                 print(f"entry {number} at {place} kind {kind}")
         if mode == "show":
-            print(f"entry {number} at {arrival} bytes {len(data)}", *lines, sep="\n")
+            place = f" from {sender}" if sender else ""
+            print(f"entry {number} at {arrival}{place} bytes {len(data)}", *lines, sep="\n")
     if mode != "show":
         print(f"checked {number} faulty {faulty}")
 

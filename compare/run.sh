@@ -1,8 +1,9 @@
 #!/usr/bin/env bash
 # Compares `sflow check`, `sflow check --zero` and `sflow show` with a second reader of captures, and `sflow replay` with a
-# second collector, over the examples and over made captures. It needs python3, and is no part of the tests.
+# second collector, over the examples and over made captures; and `sflow pcap` with a second reader of pcap files. It needs
+# python3, and is no part of the tests.
 #   compare/run.sh [SEEDS]
-# SEEDS is how many captures of 10,000 entries, and how many of 4,000 datagrams sent, are made (4).
+# SEEDS is how many captures of 10,000 entries, how many of 4,000 datagrams sent, and how many pcap files are made (4).
 set -eu
 cd "$(dirname "${BASH_SOURCE[0]}")/.."
 seeds=${1:-4}
@@ -26,9 +27,10 @@ compare() {
 # The limits in the order of their numbers.
 report() {
   local capture=$1 streams=$2 sources=$3 datagrams=$4 samples=$5 slack=$6
-  ./sflow replay --streams "$streams" --sources "$sources" --datagram-width "$datagrams" --sample-width "$samples" \
-    --boot-slack "$slack" < "$capture" > "$folder/ours"
-  python3 compare/collect.py "$streams" "$sources" "$datagrams" "$samples" "$slack" < "$capture" > "$folder/theirs"
+  ./sflow replay --interfaces --streams "$streams" --sources "$sources" --datagram-width "$datagrams" \
+    --sample-width "$samples" --boot-slack "$slack" < "$capture" > "$folder/ours"
+  python3 compare/collect.py "$streams" "$sources" "$datagrams" "$samples" "$slack" --interfaces < "$capture" \
+    > "$folder/theirs"
   if cmp -s "$folder/ours" "$folder/theirs"; then
     echo "same: replay, limits $streams $sources $datagrams $samples $slack, $capture, $(wc -l < "$folder/ours") lines"
   else
@@ -37,9 +39,25 @@ report() {
   fi
 }
 
+# A file that is cut is refused by both.
+packets() {
+  local file=$1 words=$2 ours theirs
+  ./sflow pcap $words < "$file" > "$folder/ours" 2> "$folder/ours.said" && ours=0 || ours=$?
+  python3 compare/pcap.py $words < "$file" > "$folder/theirs" 2> "$folder/theirs.said" && theirs=0 || theirs=$?
+  if [ "$ours" = "$theirs" ] && cmp -s "$folder/ours" "$folder/theirs" && cmp -s "$folder/ours.said" "$folder/theirs.said"; then
+    echo "same: pcap $words, $file, status $ours, $(wc -c < "$folder/ours") bytes"
+  else
+    echo "DIFFERENT: pcap $words, $file"
+    status=1
+  fi
+}
+
 for seed in $(seq "$seeds"); do
   python3 compare/make_capture.py "$seed" 10000 > "$folder/seed-$seed.sflc"
   python3 compare/make_run.py "$seed" 4000 > "$folder/run-$seed.sflc"
+  python3 compare/make_pcap.py "$seed" 5000 > "$folder/seed-$seed.pcap"
+  ./sflow pcap < "$folder/seed-$seed.pcap" > "$folder/pcap-$seed.sflc"
+  head -c "$((100000 + seed))" "$folder/seed-$seed.pcap" > "$folder/cut-$seed.pcap"
 done
 for capture in examples/*.sflc "$folder"/*.sflc; do
   compare "$capture" "check" check
@@ -54,5 +72,12 @@ for capture in examples/*.sflc "$folder"/run-*.sflc; do
   report "$capture" 256 4096 8192 8192 5000
   report "$capture" 256 4096 2 8191 5000
   report "$capture" 256 4096 63 65 5000
+done
+for capture in "$folder"/pcap-*.sflc; do
+  report "$capture" 256 4096 64 1024 5000
+done
+for file in examples/*.pcap "$folder"/*.pcap; do
+  packets "$file" ''
+  packets "$file" --count
 done
 exit $status

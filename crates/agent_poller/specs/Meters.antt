@@ -1,13 +1,10 @@
 -- What a meter shows of its reads, and the meter over a list.
-use Rattle.std.specs.Prelude.{◌≡◌, ℕ, ◌+◌, ◌-◌, ◌^◌, List, [], ◌∷◌, map, min, drop}
+use Rattle.std.specs.Prelude.{◌≡◌, ℕ, List, [], ◌∷◌, map, drop}
+use Rattle.agent_spec.specs.Counting.{next_count}
 use Rattle.data_format.specs.Records.{Content}
 use Rattle.data_format.specs.declared.source.SourceId.{SourceId}
 use Rattle.rec_counters.specs.Contents.{interface_content}
 use Rattle.rec_counters.specs.declared.interface.IfCounters.{IfCounters}
-
--- one more than a count of 64 bits, which stays at its last value
-abbrev pub next_count : ℕ → ℕ
-next_count count = min (count + 1) (2 ^ 64 - 1)
 
 abbrev pub HasNoTail : IfCounters → Type 0
 HasNoTail counters = counters.tail.now ≡ []

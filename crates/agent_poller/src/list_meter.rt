@@ -1,6 +1,7 @@
 ghost use Rattle.std.specs.Prelude.{◌≡◌, ◌↔◌, ◌⊎◌, [], ◌∷◌, All, Contains, IsErr, IfOk, OnOk, OnErr, MatchResult};
 ghost use Rattle.rec_counters.specs.Contents.{interface_content};
-ghost use Rattle.agent_poller.specs.Meters.{next_count, gives_first, meter_faults, HasNoTail, meter_read, meter_failed};
+ghost use Rattle.agent_spec.specs.Counting.{next_count};
+ghost use Rattle.agent_poller.specs.Meters.{gives_first, meter_faults, HasNoTail, meter_read, meter_failed};
 
 use crate::meter::Meter;
 use data_format::{Failed, SourceId};

@@ -1,6 +1,6 @@
 ghost use Rattle.std.specs.Prelude.{◌≡◌, [], IfOk, OnOk, OnErr};
 ghost use Rattle.rec_counters.specs.Contents.{interface_content};
-ghost use Rattle.agent_poller.specs.Meters.{next_count};
+ghost use Rattle.agent_spec.specs.Counting.{next_count};
 
 use data_format::{Failed, SourceId};
 use rec_counters::IfCounters;

@@ -1,7 +1,7 @@
 ghost use Rattle.std.specs.Prelude.{◌≡◌, ℕ, ◌+◌, ◌≤◌, [], true, IfOk, OnOk, OnErr};
 ghost use Rattle.agent_spec.specs.Polls.{is_due_after};
 ghost use Rattle.rec_counters.specs.Contents.{interface_content};
-ghost use Rattle.agent_poller.specs.Meters.{next_count};
+ghost use Rattle.agent_spec.specs.Counting.{next_count};
 ghost use Rattle.agent_poller.specs.Polling.{StandsFor, number_behind};
 
 use crate::meter::Meter;

@@ -9,3 +9,4 @@ pub mod Boots
 pub mod Sending
 pub mod Orders
 pub mod Rows
+pub mod Counting

@@ -8,6 +8,7 @@ pub mod Listing
 pub mod Books
 pub mod PlacedSamples
 pub mod WholeBooks
+pub mod SampledHeaders
 pub mod Parting
 pub mod Rows
 pub mod BookRows

@@ -3,6 +3,6 @@
 
 mod views;
 
-pub use books_spec::{FirstFault, LedgerView, Limits, Totals};
+pub use books_spec::{FirstFault, IfView, LedgerView, Limits, Totals};
 pub use data_format::{Address, Fault, SourceId};
 pub use views::{SourceView, StreamView};

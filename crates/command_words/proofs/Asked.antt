@@ -10,7 +10,7 @@ use Rattle.command_words.specs.Rules.{Text, Rule}
 use Rattle.command_words.specs.Pieces.{Piece, text_of}
 use Rattle.command_words.specs.Reading.{counted, is_counted, lawful_pieces, pieces_from}
 use Rattle.command_words.specs.Limits.{LimitTexts, limits_asked, texts_by}
-use Rattle.command_words.specs.Commands.{command_named, command_with, limits_of, rules_of}
+use Rattle.command_words.specs.Commands.{command_named, command_with, interfaces_of, limits_of, rules_of}
 
 pub same_texts : {streams sources datagram_width sample_width boot_slack streams-2 sources-2 datagram_width-2 sample_width-2 boot_slack-2 : Option Text}
     → streams ≡ streams-2 → sources ≡ sources-2 → datagram_width ≡ datagram_width-2 → sample_width ≡ sample_width-2
@@ -33,9 +33,10 @@ lawful_made rules words pieces is = go (pieces_from rules None words) refl is
     go None from e = cc
     go (Some qs) from e = from ∙ kept qs (list_all (is_counted qs) rules) e
 
-with_limits : (o : Option Limits) → is_some o ≡ is_some (option_map Replay o)
-with_limits None = refl
-with_limits (Some limits) = refl
+with_limits : (o : Option Limits) (interfaces : Bool)
+    → is_some o ≡ is_some (option_map (λ limits. Replay limits interfaces) o)
+with_limits None interfaces = refl
+with_limits (Some limits) interfaces = refl
 
 pub replay_asked : (command : CommandName) (words : List Text) (rules : List Rule) (texts : LimitTexts) (limits : Option Limits) (b : Bool)
     → command ≡ name.Replay → rules ≡ rules_of command → true ≡ is_some (lawful_pieces rules words)
@@ -51,5 +52,5 @@ replay_asked command words rules texts limits b is same lawful texts_are limits_
     go None from some = cc
     go (Some pieces) from some =
         test ∙ ap is_some (limits_are ∙ ap limits_asked (texts_are pieces (lawful_made rules words pieces from)))
-        ∙ with_limits (limits_of pieces)
+        ∙ with_limits (limits_of pieces) (interfaces_of pieces)
         ∙ ap (λ o. is_some (option_and_then (command_with name.Replay) o)) (sym from)

@@ -18,12 +18,14 @@ rules_fine name.Replay = refl
 rules_fine name.Show = refl
 rules_fine name.Check = refl
 rules_fine name.Canon = refl
+rules_fine name.Pcap = refl
 
 name_read : (command : CommandName) → name_of (word_of command) ≡ Some command
 name_read name.Replay = refl
 name_read name.Show = refl
 name_read name.Check = refl
 name_read name.Canon = refl
+name_read name.Pcap = refl
 
 -- what is found by its word has that word
 found_first : (names : List CommandName) (word : Text) (n command : CommandName)

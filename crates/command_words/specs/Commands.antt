@@ -1,13 +1,17 @@
 -- The commands: their names, their rules, and what lawful words ask for.
-use Rattle.std.specs.Prelude.{◌≡◌, List, [], ◌∷◌, Option, Some, None, codes, find, if◌then◌else◌, nat_lt, option_and_then, option_map}
+use Rattle.std.specs.Prelude.{◌≡◌, Bool, List, [], ◌∷◌, Option, Some, None, codes, find, if◌then◌else◌, nat_lt, option_and_then, option_map}
 use Rattle.std.specs.Str.{bytes_eq}
 use Rattle.wire_spec.specs.declared.pad.Pad.{Pad}
 use Rattle.wire_spec.specs.declared.pad.Pad.TheVariants.{Any, Zero}
 use Rattle.command_words.specs.declared.arguments.Form.TheVariants.{Flag, Optional}
 use Rattle.command_words.specs.declared.arguments.CommandName.{CommandName}
 use Rattle.command_words.specs.declared.arguments.CommandName.TheVariants as name
+use Rattle.capture_spec.specs.declared.pcap_output.PcapOutput.{PcapOutput}
+use Rattle.capture_spec.specs.declared.pcap_output.PcapOutput.TheVariants.{Capture, Counts}
+use Rattle.command_words.specs.declared.command.CanonVersion.{CanonVersion}
+use Rattle.command_words.specs.declared.command.CanonVersion.TheVariants as canon
 use Rattle.command_words.specs.declared.command.Command.{Command}
-use Rattle.command_words.specs.declared.command.Command.TheVariants.{Replay, Show, Check, Canon}
+use Rattle.command_words.specs.declared.command.Command.TheVariants.{Replay, Show, Check, Canon, Pcap}
 use Rattle.command_words.specs.Rules.{Text, Rule}
 use Rattle.books_spec.specs.declared.limits.Limits.{Limits}
 use Rattle.command_words.specs.Pieces.{Piece, AreLawful, count_of, spelling, text_of}
@@ -17,6 +21,18 @@ use Rattle.command_words.specs.Reading.{lawful_pieces}
 -- the padding is zero where the flag stands
 abbrev pub pad_of : List Piece → Pad
 pad_of pieces = if nat_lt 0 (count_of (codes "zero") pieces) then Zero else Any
+
+-- with the lines of interfaces where the flag stands
+abbrev pub interfaces_of : List Piece → Bool
+interfaces_of pieces = nat_lt 0 (count_of (codes "interfaces") pieces)
+
+-- version 2 where the flag stands
+abbrev pub canon_version_of : List Piece → CanonVersion
+canon_version_of pieces = if nat_lt 0 (count_of (codes "migrate") pieces) then canon.Two else canon.Same
+
+-- the counts where the flag stands
+abbrev pub output_of : List Piece → PcapOutput
+output_of pieces = if nat_lt 0 (count_of (codes "count") pieces) then Counts else Capture
 
 -- the limits of its options
 abbrev pub limits_of : List Piece → Option Limits
@@ -38,8 +54,9 @@ replay_row = record {
       ∷ record { name = codes "datagram-width"; form = Optional }
       ∷ record { name = codes "sample-width"; form = Optional }
       ∷ record { name = codes "boot-slack"; form = Optional }
+      ∷ record { name = codes "interfaces"; form = Flag }
       ∷ [];
-  gives = λ pieces. option_map Replay (limits_of pieces);
+  gives = λ pieces. option_map (λ limits. Replay limits (interfaces_of pieces)) (limits_of pieces);
 }
 
 abbrev pub show_row : CommandRow
@@ -53,16 +70,28 @@ check_row = record {
 }
 
 abbrev pub canon_row : CommandRow
-canon_row = record { word = codes "canon"; rules = []; gives = λ pieces. Some Canon }
+canon_row = record {
+  word = codes "canon";
+  rules = record { name = codes "migrate"; form = Flag } ∷ [];
+  gives = λ pieces. Some (Canon (canon_version_of pieces));
+}
+
+abbrev pub pcap_row : CommandRow
+pcap_row = record {
+  word = codes "pcap";
+  rules = record { name = codes "count"; form = Flag } ∷ [];
+  gives = λ pieces. Some (Pcap (output_of pieces));
+}
 
 abbrev pub row_of : CommandName → CommandRow
 row_of name.Replay = replay_row
 row_of name.Show = show_row
 row_of name.Check = check_row
 row_of name.Canon = canon_row
+row_of name.Pcap = pcap_row
 
 abbrev pub commands : List CommandName
-commands = name.Replay ∷ name.Show ∷ name.Check ∷ name.Canon ∷ []
+commands = name.Replay ∷ name.Show ∷ name.Check ∷ name.Canon ∷ name.Pcap ∷ []
 
 -- ---- the same for all commands
 

@@ -28,12 +28,13 @@ pub enum CommandName {
     Show,
     Check,
     Canon,
+    Pcap,
 }
 
 static NONE: [Argument; 0] = [];
 
-// The options that set the limits of a collector.
-static LIMITS: [Argument; 5] = [
+// The options that set the limits of a collector, and the flag for the lines of interfaces.
+static REPLAY: [Argument; 6] = [
     Argument {
         name: "streams",
         form: Form::Optional,
@@ -54,10 +55,24 @@ static LIMITS: [Argument; 5] = [
         name: "boot-slack",
         form: Form::Optional,
     },
+    Argument {
+        name: "interfaces",
+        form: Form::Flag,
+    },
 ];
 
 static CHECK: [Argument; 1] = [Argument {
     name: "zero",
+    form: Form::Flag,
+}];
+
+static CANON: [Argument; 1] = [Argument {
+    name: "migrate",
+    form: Form::Flag,
+}];
+
+static PCAP: [Argument; 1] = [Argument {
+    name: "count",
     form: Form::Flag,
 }];
 
@@ -71,6 +86,7 @@ impl CommandName {
             "show" => Some(CommandName::Show),
             "check" => Some(CommandName::Check),
             "canon" => Some(CommandName::Canon),
+            "pcap" => Some(CommandName::Pcap),
             _ => None,
         }
     }
@@ -83,6 +99,7 @@ impl CommandName {
             CommandName::Show => "show",
             CommandName::Check => "check",
             CommandName::Canon => "canon",
+            CommandName::Pcap => "pcap",
         }
     }
 
@@ -91,9 +108,11 @@ impl CommandName {
         ensures { rules_in result.now ≡ rules_of self }
     {
         match self {
-            CommandName::Replay => &LIMITS,
+            CommandName::Replay => &REPLAY,
             CommandName::Check => &CHECK,
-            CommandName::Show | CommandName::Canon => &NONE,
+            CommandName::Pcap => &PCAP,
+            CommandName::Canon => &CANON,
+            CommandName::Show => &NONE,
         }
     }
 }

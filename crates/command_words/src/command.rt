@@ -8,6 +8,7 @@ use crate::arguments::CommandName;
 use crate::limits::LimitTexts;
 use crate::matching::matches_in;
 use crate::reading::are_lawful;
+use capture_spec::PcapOutput;
 use clap::error::ErrorKind;
 use clap::{ArgMatches, Error};
 use collector_views::Limits;
@@ -17,14 +18,26 @@ use wire_spec::Pad;
 /// What the words of the command line ask for.
 #[derive(Clone, Copy, Debug, PartialEq, Eq)]
 pub enum Command {
-    /// Reads a capture and reports its streams, under the limits of a collector.
-    Replay { limits: Limits },
+    /// Reads a capture and reports its streams and sources, under the limits of a collector, and with a line for each
+    /// interface where that is asked for.
+    Replay { limits: Limits, interfaces: bool },
     /// Reads a capture and shows each of its entries.
     Show,
     /// Reads a capture and names its faulty entries, under a reading of padding.
     Check { pad: Pad },
     /// Reads a capture and writes it anew, each datagram with zero padding.
-    Canon,
+    Canon { version: CanonVersion },
+    /// Reads a pcap file and writes a capture of its payloads, or how many of its packets have one.
+    Pcap { output: PcapOutput },
+}
+
+/// The version of the capture that is written anew.
+#[derive(Clone, Copy, Debug, PartialEq, Eq)]
+pub enum CanonVersion {
+    /// That of the capture which was read.
+    Same,
+    /// Version 2.
+    Two,
 }
 
 /// Why there is no command.
@@ -58,6 +71,41 @@ fn pad_in(matches: &ArgMatches) -> Pad
     }
 }
 
+// Whether the lines of interfaces are asked for.
+fn interfaces_in(matches: &ArgMatches) -> bool
+    ensures { (given : Bool)
+        → one_text (found_of matches.now) (codes "interfaces") ≡ Some (if given then codes "true" else codes "false")
+        → result ≡ given }
+{
+    matches.get_flag("interfaces")
+}
+
+// Version 2 where the flag is set.
+fn version_in(matches: &ArgMatches) -> CanonVersion
+    ensures { (given : Bool)
+        → one_text (found_of matches.now) (codes "migrate") ≡ Some (if given then codes "true" else codes "false")
+        → result ≡ (if given then CanonVersion.Two else CanonVersion.Same) }
+{
+    if matches.get_flag("migrate") {
+        CanonVersion::Two
+    } else {
+        CanonVersion::Same
+    }
+}
+
+// The counts where the flag is set.
+fn output_in(matches: &ArgMatches) -> PcapOutput
+    ensures { (given : Bool)
+        → one_text (found_of matches.now) (codes "count") ≡ Some (if given then codes "true" else codes "false")
+        → result ≡ (if given then PcapOutput.Counts else PcapOutput.Capture) }
+{
+    if matches.get_flag("count") {
+        PcapOutput::Counts
+    } else {
+        PcapOutput::Capture
+    }
+}
+
 // Whether the words ask for the command of this name. This takes no memory.
 fn asks(name: CommandName, words: &[String]) -> bool
     ensures { result ≡ is_some (command_named (map string_bytes words.now) name) }
@@ -66,7 +114,7 @@ fn asks(name: CommandName, words: &[String]) -> bool
     are_lawful(arguments, words)
         && match name {
             CommandName::Replay => LimitTexts::in_words(arguments, words).limits().is_some(),
-            CommandName::Show | CommandName::Check | CommandName::Canon => true,
+            CommandName::Show | CommandName::Check | CommandName::Canon | CommandName::Pcap => true,
         }
 }
 
@@ -78,13 +126,21 @@ fn command_in(name: CommandName, matches: &ArgMatches) -> Option<Command>
     match name {
         CommandName::Replay => {
             let limits = LimitTexts::in_matches(matches).limits()?;
-            Some(Command::Replay { limits })
+            Some(Command::Replay {
+                limits,
+                interfaces: interfaces_in(matches),
+            })
         }
         CommandName::Show => Some(Command::Show),
         CommandName::Check => Some(Command::Check {
             pad: pad_in(matches),
         }),
-        CommandName::Canon => Some(Command::Canon),
+        CommandName::Canon => Some(Command::Canon {
+            version: version_in(matches),
+        }),
+        CommandName::Pcap => Some(Command::Pcap {
+            output: output_in(matches),
+        }),
     }
 }
 

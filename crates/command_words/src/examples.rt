@@ -1,17 +1,22 @@
 // Worked examples: words and their readings.
-ghost use Rattle.std.specs.Prelude.{◌≡◌, [], ◌∷◌, None, Some, codes};
+ghost use Rattle.std.specs.Prelude.{◌≡◌, [], ◌∷◌, None, Some, codes, false, true};
 ghost use Rattle.books_spec.specs.Limits.{usual_limits};
 ghost use Rattle.command_words.specs.Commands.{command_of};
 ghost use Rattle.command_words.specs.Examples.{example_rules};
 ghost use Rattle.command_words.specs.Pieces.{alone, apart, joined};
 ghost use Rattle.command_words.specs.Reading.{lawful_pieces};
 
-use crate::command::Command;
+use crate::command::{CanonVersion, Command};
+use capture_spec::PcapOutput;
 use wire_spec::Pad;
 
 /// The words of the commands.
 pub fn words_of_commands()
-    ensures replay { command_of (codes "replay" ∷ []) ≡ Some (Command.Replay usual_limits) }
+    ensures replay { command_of (codes "replay" ∷ []) ≡ Some (Command.Replay usual_limits false) }
+    ensures interfaces { command_of (codes "replay" ∷ codes "--interfaces" ∷ [])
+        ≡ Some (Command.Replay usual_limits true) }
+    ensures interfaces_twice { command_of (codes "replay" ∷ codes "--interfaces" ∷ codes "--interfaces" ∷ []) ≡ None }
+    ensures interfaces_of_show { command_of (codes "show" ∷ codes "--interfaces" ∷ []) ≡ None }
     ensures show { command_of (codes "show" ∷ []) ≡ Some Command.Show }
     ensures check { command_of (codes "check" ∷ []) ≡ Some (Command.Check Pad.Any) }
     ensures check_zero { command_of (codes "check" ∷ codes "--zero" ∷ []) ≡ Some (Command.Check Pad.Zero) }
@@ -20,7 +25,9 @@ pub fn words_of_commands()
     ensures empty_word { command_of ([] ∷ []) ≡ None }
     ensures upper_case { command_of (codes "Check" ∷ []) ≡ None }
     ensures flag_first { command_of (codes "--zero" ∷ codes "check" ∷ []) ≡ None }
-    ensures canon { command_of (codes "canon" ∷ []) ≡ Some Command.Canon }
+    ensures canon { command_of (codes "canon" ∷ []) ≡ Some (Command.Canon CanonVersion.Same) }
+    ensures canon_migrate { command_of (codes "canon" ∷ codes "--migrate" ∷ [])
+        ≡ Some (Command.Canon CanonVersion.Two) }
     ensures canon_more { command_of (codes "canon" ∷ codes "--zero" ∷ []) ≡ None }
     ensures more_words { command_of (codes "replay" ∷ codes "extra" ∷ []) ≡ None }
     ensures hyphens { command_of (codes "replay" ∷ codes "--" ∷ []) ≡ None }
@@ -29,15 +36,18 @@ pub fn words_of_commands()
     ensures flag_with_equals { command_of (codes "check" ∷ codes "--zero=" ∷ []) ≡ None }
     ensures flag_with_text { command_of (codes "check" ∷ codes "--zero=1" ∷ []) ≡ None }
     ensures one_letter { command_of (codes "check" ∷ codes "-z" ∷ []) ≡ None }
+    ensures pcap { command_of (codes "pcap" ∷ []) ≡ Some (Command.Pcap PcapOutput.Capture) }
+    ensures pcap_count { command_of (codes "pcap" ∷ codes "--count" ∷ []) ≡ Some (Command.Pcap PcapOutput.Counts) }
+    ensures pcap_zero { command_of (codes "pcap" ∷ codes "--zero" ∷ []) ≡ None }
     ensures help { command_of (codes "check" ∷ codes "--help" ∷ []) ≡ None }
 {}
 
 /// The limits of `replay`: each in its range, the usual one where it isn't given.
 pub fn words_of_limits()
     ensures joined { command_of (codes "replay" ∷ codes "--streams=2" ∷ [])
-        ≡ Some (Command.Replay (record usual_limits { streams = 2 })) }
+        ≡ Some (Command.Replay (record usual_limits { streams = 2 }) false) }
     ensures apart { command_of (codes "replay" ∷ codes "--streams" ∷ codes "2" ∷ [])
-        ≡ Some (Command.Replay (record usual_limits { streams = 2 })) }
+        ≡ Some (Command.Replay (record usual_limits { streams = 2 }) false) }
     ensures split { command_of (codes "replay" ∷ codes "--boot-slack=6" ∷ codes "00" ∷ []) ≡ None }
     ensures any_order { command_of (codes "replay" ∷ codes "--boot-slack=105" ∷ codes "--sample-width" ∷ codes "4"
         ∷ codes "--datagram-width=3" ∷ codes "--sources" ∷ codes "20" ∷ codes "--streams=10" ∷ [])
@@ -47,7 +57,7 @@ pub fn words_of_limits()
           datagram_width = 3;
           sample_width = 4;
           boot_slack = 105;
-        })) }
+        }) false) }
     ensures least { command_of (codes "replay" ∷ codes "--streams=1" ∷ codes "--sources=1"
         ∷ codes "--datagram-width=1" ∷ codes "--sample-width=1" ∷ codes "--boot-slack=100" ∷ [])
         ≡ Some (Command.Replay (record {
@@ -56,7 +66,7 @@ pub fn words_of_limits()
           datagram_width = 1;
           sample_width = 1;
           boot_slack = 100;
-        })) }
+        }) false) }
     ensures most { command_of (codes "replay" ∷ codes "--streams=4096" ∷ codes "--sources=65536"
         ∷ codes "--datagram-width=8192" ∷ codes "--sample-width=8192" ∷ codes "--boot-slack=1073741824" ∷ [])
         ≡ Some (Command.Replay (record {
@@ -65,7 +75,7 @@ pub fn words_of_limits()
           datagram_width = 8192;
           sample_width = 8192;
           boot_slack = 1073741824;
-        })) }
+        }) false) }
 
     ensures no_streams { command_of (codes "replay" ∷ codes "--streams" ∷ codes "0" ∷ []) ≡ None }
     ensures many_streams { command_of (codes "replay" ∷ codes "--streams=4097" ∷ []) ≡ None }

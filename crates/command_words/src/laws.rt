@@ -1,5 +1,5 @@
 // What holds of the reading of words. Each law is the contract of a function with nothing to do.
-ghost use Rattle.std.specs.Prelude.{◌≡◌, ◌↔◌, ◌<◌, ◌^◌, ℕ, List, Some, IsTrue, decimal};
+ghost use Rattle.std.specs.Prelude.{◌≡◌, ◌↔◌, ◌<◌, ◌^◌, ℕ, Bool, List, Some, IsTrue, decimal};
 ghost use Rattle.books_spec.specs.declared.limits.Limits.{Limits};
 ghost use Rattle.books_spec.specs.Limits.{AreLawful as AreWithin};
 ghost use Rattle.command_words.specs.declared.arguments.CommandName.{CommandName};
@@ -36,6 +36,7 @@ pub fn numbers_are_decimal()
 
 /// Words that ask for limits ask for limits that a collector can have: each is within its range.
 pub fn limits_are_lawful()
-    ensures { (words : List (List ℕ)) (limits : Limits) → command_of words ≡ Some (Command.Replay limits)
+    ensures { (words : List (List ℕ)) (limits : Limits) (interfaces : Bool)
+        → command_of words ≡ Some (Command.Replay limits interfaces)
         → AreWithin limits }
 {}

@@ -15,8 +15,9 @@ mod number;
 mod reading;
 
 pub use arguments::{CommandName, Form};
+pub use capture_spec::PcapOutput;
 pub use collector_views::Limits;
-pub use command::{Command, WordsRefusal, read_words};
+pub use command::{CanonVersion, Command, WordsRefusal, read_words};
 pub use examples::{words_of_commands, words_of_limits, words_with_options};
 pub use laws::{
     commands_are_spelled, lawful_words_have_one_reading, limits_are_lawful, numbers_are_decimal,

@@ -1,4 +1,4 @@
-use crate::{Command, Limits, WordsRefusal, read_words};
+use crate::{CanonVersion, Command, Limits, PcapOutput, WordsRefusal, read_words};
 use std::test::Fail;
 use wire_spec::Pad;
 
@@ -12,6 +12,7 @@ const REPLAY: Result<Command, WordsRefusal> = Ok(Command::Replay {
         sample_width: 1_024,
         boot_slack: 5_000,
     },
+    interfaces: false,
 });
 
 const TWO_STREAMS: Result<Command, WordsRefusal> = Ok(Command::Replay {
@@ -22,6 +23,7 @@ const TWO_STREAMS: Result<Command, WordsRefusal> = Ok(Command::Replay {
         sample_width: 1_024,
         boot_slack: 5_000,
     },
+    interfaces: false,
 });
 
 const ALL_LIMITS: Result<Command, WordsRefusal> = Ok(Command::Replay {
@@ -32,9 +34,24 @@ const ALL_LIMITS: Result<Command, WordsRefusal> = Ok(Command::Replay {
         sample_width: 1,
         boot_slack: 1_073_741_824,
     },
+    interfaces: false,
 });
 
-const CANON: Result<Command, WordsRefusal> = Ok(Command::Canon);
+const CANON: Result<Command, WordsRefusal> = Ok(Command::Canon {
+    version: CanonVersion::Same,
+});
+
+const MIGRATE: Result<Command, WordsRefusal> = Ok(Command::Canon {
+    version: CanonVersion::Two,
+});
+
+const PCAP: Result<Command, WordsRefusal> = Ok(Command::Pcap {
+    output: PcapOutput::Capture,
+});
+
+const PCAP_COUNT: Result<Command, WordsRefusal> = Ok(Command::Pcap {
+    output: PcapOutput::Counts,
+});
 
 const SHOW: Result<Command, WordsRefusal> = Ok(Command::Show);
 
@@ -45,7 +62,7 @@ const CHECK_ZERO: Result<Command, WordsRefusal> = Ok(Command::Check { pad: Pad::
 // With ample memory each list of words has its reading.
 #[test]
 fn words_have_their_readings(rt: HostRuntime) -> Result<(), Fail> {
-    let cases: [(&[&str], Result<Command, WordsRefusal>); 37] = [
+    let cases: [(&[&str], Result<Command, WordsRefusal>); 43] = [
         (&[], USAGE),
         (&[""], USAGE),
         (&["replay"], REPLAY),
@@ -79,7 +96,13 @@ fn words_have_their_readings(rt: HostRuntime) -> Result<(), Fail> {
         (&["replay", "--streams=2", "--streams=2"], USAGE),
         (&["replay", "--streams=4294967298"], USAGE),
         (&["canon"], CANON),
+        (&["canon", "--migrate"], MIGRATE),
+        (&["canon", "--migrate=2"], USAGE),
         (&["canon", "--zero"], USAGE),
+        (&["pcap"], PCAP),
+        (&["pcap", "--count"], PCAP_COUNT),
+        (&["pcap", "--count", "--count"], USAGE),
+        (&["pcap", "--count="], USAGE),
         (&["show"], SHOW),
         (&["check"], CHECK),
         (&["check", "--zero"], CHECK_ZERO),

@@ -6,4 +6,5 @@ pub mod Parts
 pub mod Samples
 pub mod Records
 pub mod Unchecked
+pub mod HeadsAlone
 pub mod Values

@@ -12,14 +12,15 @@ use Rattle.xdr_words.specs.Readers.{Gives}
 use Rattle.data_format.specs.Frames.{Test}
 use Rattle.data_format.specs.Parts.{with_frames, parts_tree}
 use Rattle.data_format.specs.Ranges.{StandIn, EndsWith}
+use Rattle.data_format.specs.SampleBodies.{body_parts}
 use Rattle.data_format.specs.Samples.{SampleView, SampleParts, sample_reading}
 use Rattle.data_format.specs.Trees.{IsTestOf, AllPass}
 use Rattle.data_format.proofs.Parts.{with_table, parts_inside, parts_spelled, parts_fault, parts_pass, body_stands}
 
 -- of any kind: the head has these members, whose values are seen so
 module _ {H : Type 0} (trees : H → Trees) (ss : Shapes) (p : Pad) (test : Test) (b : Remaining) where
-  abbrev pub parts_of : SampleView H → SampleParts
-  parts_of s = ((trees s.head, s.frames), s.tail)
+  abbrev parts_of : SampleView H → SampleParts
+  parts_of = body_parts trees
 
   pub sample_spelled : (r : Result (SampleView H) Fault) → AreBytes b.bytes
       → Gives parts_of (λ f. f) r (sample_reading p ss test b) → (T : Table) → IsTestOf p T test

@@ -1,5 +1,5 @@
 -- A body whose records pass a test is read the same without it.
-use Rattle.std.proofs.Common.{◌≡◌, Result, Ok, Err, refl}
+use Rattle.std.proofs.Common.{◌≡◌, Result, Ok, Err, refl, sym, subst, ◌∙◌}
 use Rattle.std.specs.Prelude.{IsOk}
 use Rattle.wire_spec.specs.declared.pad.Pad.TheVariants as pads
 use Rattle.wire_spec.specs.declared.fault.Fault.{Fault}
@@ -10,7 +10,7 @@ use Rattle.wire_spec.proofs.FreePadding.{Keeps, itself, in_turn}
 use Rattle.wire_spec.proofs.Runs.{all_kept}
 use Rattle.data_format.specs.Frames.{Test, checked_at, frame_at, frames_at}
 use Rattle.data_format.specs.Parts.{parts_at}
-use Rattle.data_format.specs.Samples.{sample_reading}
+use Rattle.data_format.specs.Samples.{SampleParts, sample_reading}
 use Rattle.data_format.proofs.Again.{frame_again}
 
 -- no fault in any body
@@ -33,3 +33,11 @@ pub without_test : (ss : Shapes) (test : Test) (b : Remaining) → IsOk (sample_
     → sample_reading pads.Any ss no_test b ≡ sample_reading pads.Any ss test b
 without_test ss test b h = the_same (sample_reading pads.Any ss test b) (sample_reading pads.Any ss no_test b)
     (in_turn (parts_at pads.Any ss test b) (parts_at pads.Any ss no_test b) _ _ (parts_kept ss test b) (λ x. itself _)) h
+
+-- so it isn't refused then
+pub not_refused : (ss : Shapes) (test : Test) (b : Remaining) → IsOk (sample_reading pads.Any ss test b) → (e : Fault)
+    → sample_reading pads.Any ss no_test b ≡ Err e → ⊥
+not_refused ss test b there e refused =
+    let P : Result SampleParts Fault → Type 0 = IsOk in
+    let no : P (Err e) = subst P (sym (without_test ss test b there) ∙ refused) there in
+    absurd cc

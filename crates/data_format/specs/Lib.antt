@@ -6,6 +6,7 @@ pub mod Ranges
 pub mod Trees
 pub mod Parts
 pub mod Samples
+pub mod SampleBodies
 pub mod Records
 pub mod Values
 pub use Rattle.wire_spec.specs.Heads

@@ -1,4 +1,4 @@
-ghost use Rattle.std.specs.Prelude.{◌≡◌, length, IfOk, IfErr};
+ghost use Rattle.std.specs.Prelude.{◌≡◌, ◌≤◌, ◌%◌, length, IfOk, IfErr};
 ghost use Rattle.wire_spec.specs.Spells.{Spells};
 ghost use Rattle.wire_spec.specs.Fails.{Fails};
 ghost use Rattle.wire_spec.specs.Heads.{address_tree};
@@ -68,8 +68,12 @@ impl Address {
     }
 
     /// How many bytes its spelling has.
+    #[inline(always)]
     pub fn length(&self) -> usize
-        ensures { result ≡ length (spell (address_tree (address_of self.now))) }
+        ensures exact { result ≡ length (spell (address_tree (address_of self.now))) }
+        ensures words { result % 4 ≡ 0 }
+        ensures least { 4 ≤ result }
+        ensures most { result ≤ 20 }
     {
         match self {
             Address::Unknown => 4,

@@ -1,5 +1,5 @@
--- A sample that passed its check is read the same without a check of its records.
-use Rattle.std.proofs.Common.{◌≡◌, ℕ, Result, Ok, Err, refl, sym, subst, ◌∙◌}
+-- The parts of a sample that passed its check are there.
+use Rattle.std.proofs.Common.{◌≡◌, ℕ, Result, Ok, Err, refl, subst}
 use Rattle.std.specs.Prelude.{IsOk}
 use Rattle.wire_spec.specs.declared.pad.Pad.TheVariants as pads
 use Rattle.wire_spec.specs.declared.fault.Fault.{Fault}
@@ -8,11 +8,10 @@ use Rattle.wire_spec.specs.Fails.{Remaining}
 use Rattle.wire_spec.specs.Reading.{◌>>=◌, reading, inside_at}
 use Rattle.data_format.specs.declared.heads.Form.TheVariants.{Compact, Expanded}
 use Rattle.data_format.specs.Parts.{with_frames, parts_tree}
-use Rattle.data_format.specs.Samples.{SampleParts, flow_members, counters_members, sample_reading}
+use Rattle.data_format.specs.Samples.{flow_members, counters_members, sample_reading}
 use Rattle.data_format.specs.Trees.{table_test}
 use Rattle.data_format.specs.Views.{FrameView, body_of}
 use Rattle.data_format.proofs.Parts.{parts_inside}
-use Rattle.data_format.proofs.Unchecked.{no_test, without_test}
 use Rattle.datagram_core.specs.Tables.{flow_records_read, counter_records_read, samples_read}
 
 -- ---- the parts of a frame that passes are there
@@ -73,19 +72,3 @@ pub expanded_counters_there : (f : FrameView) → PassesAs 4 f → AreThere (cou
 unfolding samples_read
 expanded_counters_there f h =
     parts_there (counters_members Expanded) counter_records_read (body_of f) 4 (as_format 4 f h)
-
--- ---- and they are what is read without a test
-
-module _ (ss : Shapes) (T : Table) (f : FrameView) (there : AreThere ss T f) where
-  abbrev alike : sample_reading pads.Any ss no_test (body_of f) ≡ sample_reading pads.Any ss (table_test pads.Any T) (body_of f)
-  alike = without_test ss (table_test pads.Any T) (body_of f) there
-
-  pub given : (x : SampleParts) → sample_reading pads.Any ss no_test (body_of f) ≡ Ok x
-      → sample_reading pads.Any ss (table_test pads.Any T) (body_of f) ≡ Ok x
-  given x e = sym alike ∙ e
-
-  pub refused : (e : Fault) → sample_reading pads.Any ss no_test (body_of f) ≡ Err e → ⊥
-  refused e h =
-      let P : Result SampleParts Fault → Type 0 = IsOk in
-      let no : P (Err e) = subst P (sym alike ∙ h) there in
-      absurd cc

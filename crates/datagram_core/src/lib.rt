@@ -11,7 +11,6 @@ mod record_writing;
 mod records;
 mod rewriting;
 mod sample;
-mod sample_again;
 mod sample_head;
 mod samples;
 mod writer;

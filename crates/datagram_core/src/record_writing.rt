@@ -7,7 +7,7 @@ ghost use Rattle.datagram_core.specs.Records.{record_tree};
 ghost use Rattle.datagram_core.specs.Written.{SlicesFit, FormatFits, record_format, record_body};
 
 use crate::Record;
-use crate::writer_parts::{address_length, size_of_array};
+use crate::writer_parts::size_of_array;
 use data_format::RecordBody;
 use xdr_words::{Out, OutFull};
 
@@ -21,12 +21,12 @@ macro_rules! on_record {
             Record::Ipv4($found) => { let $number = 3; let _ = size_of_array(&$found.src) + size_of_array(&$found.dst); $read }
             Record::Ipv6($found) => { let $number = 4; let _ = size_of_array(&$found.src) + size_of_array(&$found.dst); $read }
             Record::Switch($found) => { let $number = 1001; $read }
-            Record::Router($found) => { let $number = 1002; let _ = address_length(&$found.nexthop); $read }
-            Record::Gateway($found) => { let $number = 1003; let _ = address_length(&$found.nexthop); $read }
+            Record::Router($found) => { let $number = 1002; let _ = $found.nexthop.length(); $read }
+            Record::Gateway($found) => { let $number = 1003; let _ = $found.nexthop.length(); $read }
             Record::User($found) => { let $number = 1004; $read }
             Record::Url($found) => { let $number = 1005; $read }
-            Record::Mpls($found) => { let $number = 1006; let _ = address_length(&$found.nexthop); $read }
-            Record::Nat($found) => { let $number = 1007; let _ = address_length(&$found.src) + address_length(&$found.dst); $read }
+            Record::Mpls($found) => { let $number = 1006; let _ = $found.nexthop.length(); $read }
+            Record::Nat($found) => { let $number = 1007; let _ = $found.src.length() + $found.dst.length(); $read }
             Record::IfCounters($found) => { let $number = 1; $read }
             Record::EthernetCounters($found) => { let $number = 2; $read }
             Record::VlanCounters($found) => { let $number = 5; $read }

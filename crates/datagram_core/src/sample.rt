@@ -1,6 +1,8 @@
-ghost use Rattle.std.specs.Prelude.{◌≡◌, ◌+◌, ◌<◌, ◌^◌, length, IfOk};
+ghost use Rattle.std.specs.Prelude.{◌≡◌, ◌+◌, ◌<◌, ◌^◌, length, IfOk, Ok};
+ghost use Rattle.wire_spec.specs.declared.pad.Pad.TheVariants.{Any};
 ghost use Rattle.wire_spec.specs.Reading.{inside_at};
 ghost use Rattle.xdr_words.specs.Readers.{Gives};
+ghost use Rattle.data_format.specs.Trees.{table_test};
 ghost use Rattle.data_format.specs.Views.{body_of, format_word, frame_view};
 ghost use Rattle.datagram_core.specs.Records.{records_of};
 ghost use Rattle.datagram_core.specs.Samples.{IsFrom, HasRecords, sample_tree};
@@ -49,6 +51,29 @@ impl<'a> Sample<'a> {
             3 => Ok(Sample::FlowX(FlowSampleX::read(frame, pad, &RecordKind::Flow)?)),
             4 => Ok(Sample::CountersX(CountersSampleX::read(frame, pad, &RecordKind::Counters)?)),
             _ => Ok(Sample::Other(frame)),
+        }
+    }
+
+    /// The sample in a frame in which the check found no fault; its records aren't checked again. The place behind the
+    /// body is below 2^32.
+    #[inline(always)]
+    pub(crate) fn again(frame: Frame<'a>) -> Sample<'a>
+        requires place { frame.at + length frame.body.now < 2 ^ 32 }
+        requires passes { table_test Any samples_read (frame_view frame) ≡ Ok tt }
+        ensures exact { inside_at Any samples_read (format_word frame.entry.format) (body_of (frame_view frame.entry))
+            ≡ Ok (sample_tree result) }
+        ensures from { IsFrom frame.entry result }
+        ensures unread { IsUnreadOther result }
+    {
+        if frame.format.enterprise != 0 {
+            return Sample::Other(frame);
+        }
+        match frame.format.number {
+            1 => Sample::Flow(FlowSample::again(frame, &RecordKind::Flow)),
+            2 => Sample::Counters(CountersSample::again(frame, &RecordKind::Counters)),
+            3 => Sample::FlowX(FlowSampleX::again(frame, &RecordKind::Flow)),
+            4 => Sample::CountersX(CountersSampleX::again(frame, &RecordKind::Counters)),
+            _ => Sample::Other(frame),
         }
     }
 

@@ -6,6 +6,7 @@ ghost use Rattle.data_format.specs.Views.{frame_view};
 ghost use Rattle.datagram_core.specs.SampleHeads.{IsHeadOf};
 ghost use Rattle.datagram_core.specs.Tables.{samples_read};
 
+use crate::RecordKind;
 use data_format::{CountersHead, FlowHead, Frame};
 use sample_expanded::{CountersSampleX, FlowSampleX};
 use sample_std::{CountersSample, FlowSample};
@@ -33,22 +34,10 @@ impl SampleHead {
             return SampleHead::Other;
         }
         match frame.format.number {
-            1 => match FlowSample::read_head(frame) {
-                Ok(head) => SampleHead::Flow(head),
-                Err(_) => unreachable!(),
-            },
-            2 => match CountersSample::read_head(frame) {
-                Ok(head) => SampleHead::Counters(head),
-                Err(_) => unreachable!(),
-            },
-            3 => match FlowSampleX::read_head(frame) {
-                Ok(head) => SampleHead::Flow(head),
-                Err(_) => unreachable!(),
-            },
-            4 => match CountersSampleX::read_head(frame) {
-                Ok(head) => SampleHead::Counters(head),
-                Err(_) => unreachable!(),
-            },
+            1 => SampleHead::Flow(FlowSample::head_again(frame, &RecordKind::Flow)),
+            2 => SampleHead::Counters(CountersSample::head_again(frame, &RecordKind::Counters)),
+            3 => SampleHead::Flow(FlowSampleX::head_again(frame, &RecordKind::Flow)),
+            4 => SampleHead::Counters(CountersSampleX::head_again(frame, &RecordKind::Counters)),
             _ => SampleHead::Other,
         }
     }

@@ -2,12 +2,11 @@
 // there is room, so that none is refused.
 ghost use Rattle.std.specs.Prelude.{◌≡◌, ◌≤◌, ◌+◌, ◌%◌, length, take, drop, IsOkAnd};
 ghost use Rattle.std.specs.Int.{w32, to_be_bytes};
-ghost use Rattle.wire_spec.specs.Heads.{address_tree, datagram_tree};
+ghost use Rattle.wire_spec.specs.Heads.{datagram_tree};
 ghost use Rattle.wire_spec.specs.Padding.{padding_of};
 ghost use Rattle.wire_spec.specs.Shapes.{none, other};
 ghost use Rattle.wire_spec.specs.Spelling.{spell, padded};
 ghost use Rattle.xdr_words.specs.Written.{Puts, room_left};
-ghost use Rattle.data_format.specs.Addresses.{address_of};
 ghost use Rattle.data_format.specs.Samples.{IsFlowHead, IsCountersHead};
 ghost use Rattle.data_format.specs.declared.heads.FlowHead.{FlowHead};
 ghost use Rattle.data_format.specs.declared.heads.CountersHead.{CountersHead};
@@ -18,7 +17,7 @@ ghost use Rattle.datagram_core.specs.Written.{begun_bytes, begun_flow, begun_cou
 
 use crate::record_writing::{format_word_of, write_body};
 use crate::{DatagramHead, Record};
-use data_format::{Address, CountersHead, FlowHead, Form, Format};
+use data_format::{CountersHead, FlowHead, Form, Format};
 use sample_expanded::{CountersSampleX, FlowSampleX};
 use sample_std::{CountersSample, FlowSample};
 use xdr_words::{Item, Out, OutFull, write_run};
@@ -30,22 +29,7 @@ pub(crate) fn front_length(head: &DatagramHead) -> usize
     ensures least { 24 ≤ result }
     ensures most { result ≤ 40 }
 {
-    20 + address_length(&head.agent)
-}
-
-/// How many bytes an address has.
-#[inline(always)]
-pub(crate) fn address_length(address: &Address) -> usize
-    ensures exact { result ≡ length (spell (address_tree (address_of address.now))) }
-    ensures words { result % 4 ≡ 0 }
-    ensures least { 4 ≤ result }
-    ensures most { result ≤ 20 }
-{
-    match address {
-        Address::Unknown => 4,
-        Address::V4(bytes) => 4 + size_of_array(bytes),
-        Address::V6(bytes) => 4 + size_of_array(bytes),
-    }
+    20 + head.agent.length()
 }
 
 /// How many bytes an array has.

@@ -1,5 +1,5 @@
 -- A datagram none of whose samples is entered.
-use Rattle.std.proofs.Common.{◌≡◌, ℕ, Bool, true, false, cond, List, [], ◌∷◌, length, map, refl, sym, ap, subst, ◌∙◌, true≢false}
+use Rattle.std.proofs.Common.{◌≡◌, ℕ, Bool, true, false, cond, Option, List, [], ◌∷◌, length, map, refl, sym, ap, subst, ◌∙◌, true≢false}
 use Rattle.std.specs.List.{filter_map}
 use Rattle.count_spec.specs.Windows.{answer, counted}
 use Rattle.count_spec.specs.Boots.{sequences, boot_place, boots}
@@ -10,7 +10,7 @@ use Rattle.count_spec.specs.declared.stretch_place.StretchPlace.{StretchPlace}
 use Rattle.count_spec.specs.declared.stretch_place.StretchPlace.TheVariants.{Current, Next, Stale}
 use Rattle.books_spec.specs.Items.{SourceId, Sample, Datagram, stamp_of, Item, Got, stream_of, Source}
 use Rattle.books_spec.specs.SourceViews.{PlacedReading}
-use Rattle.books_spec.specs.PlacedSamples.{placed_at, first_placed, placed_reading_of, placed_readings, placed_boots}
+use Rattle.books_spec.specs.PlacedSamples.{PlacedSample, placed_at, first_placed, placed_reading_of, placed_readings, placed_boots, InterfaceSample, interface_samples, interface_boots}
 use Rattle.books_spec.specs.declared.limits.Limits.{Limits}
 use Rattle.books_spec.specs.Listing.{same_stream, among}
 use Rattle.books_spec.specs.Books.{listed_streams, own, stream_boots, taken_of, taken_at, taken_in, taken_now, samples_at, onto, entered_in, entered, source_of, sources_of}
@@ -22,7 +22,10 @@ use Rattle.stream_books.specs.Sources.{StandsFor}
 use Rattle.stream_books.specs.declared.source.SourceRecord.{SourceRecord}
 use Rattle.stream_books.proofs.Sources.{record-passed}
 use Rattle.flow_collector.specs.Steps.{is_first, with_samples}
-use Rattle.flow_collector.proofs.Entering.{place-same, taken-same}
+use Rattle.if_ledger.specs.Ledgers.{IfState}
+use Rattle.if_ledger.specs.Boots.{StandsForBoots}
+use Rattle.if_ledger.proofs.Runs.{passed-stands}
+use Rattle.flow_collector.proofs.Entering.{place-same, taken-same, seen_in, seen_boots, see_interface}
 use Rattle.flow_collector.proofs.Lists.{length-map-all}
 
 -- ---- no samples
@@ -47,7 +50,7 @@ pub sources-none : (l : Limits) (items : List Item) (d : Datagram)
 sources-none l items d = ap (filter_map source_of) (entered-none l items d)
 
 -- boots with one more at most, without an entry
-pub data Grown (old new : List (List PlacedReading)) : Type 0 where
+pub data Grown {X : Type 0} (old new : List (List X)) : Type 0 where
   same : new ≡ old → Grown old new
   passed : new ≡ [] ∷ old → Grown old new
 
@@ -60,35 +63,53 @@ grown-stands s old new (passed e) st =
     let P : List (List PlacedReading) → Type 0 = λ bs. StandsFor s bs in
     subst P (sym e) (record-passed s old st)
 
+pub grown-interface : (width : ℕ) (s : IfState) (old new : List (List InterfaceSample)) → Grown old new
+    → StandsForBoots width s old → StandsForBoots width s new
+grown-interface width s old new (same e) st =
+    let P : List (List InterfaceSample) → Type 0 = λ bs. StandsForBoots width s bs in
+    subst P (sym e) st
+grown-interface width s old new (passed e) st =
+    let P : List (List InterfaceSample) → Type 0 = λ bs. StandsForBoots width s bs in
+    subst P (sym e) (passed-stands width s old st)
+
 placed-none : (a : window.Entered) → placed_at a [] ≡ []
 placed-none (answers.First place n) = refl
 placed-none answers.Repeat = refl
 placed-none answers.Late = refl
 
-placed-grown : (w : ℕ) (id : SourceId) (d : Datagram) (p : StretchPlace) (bs : List (List Datagram))
-    → Grown (map (placed_readings w id) bs) (map (placed_readings w id) (placed p (with_samples d []) bs))
-placed-grown w id d Current [] = passed (
-    ap (λ xs. filter_map (placed_reading_of id) (onto xs []) ∷ [])
-    (placed-none (answer w (counted w []) d.head.sequence)))
-placed-grown w id d Current (current ∷ closed) = same (
-    ap (λ xs. filter_map (placed_reading_of id) (onto xs (first_placed w current)) ∷ map (placed_readings w id) closed)
-    (placed-none (answer w (counted w (sequences stamp_of current)) d.head.sequence)))
-placed-grown w id d Next bs = passed (
-    ap (λ xs. filter_map (placed_reading_of id) (onto xs []) ∷ map (placed_readings w id) bs)
-    (placed-none (answer w (counted w []) d.head.sequence)))
-placed-grown w id d Stale bs = same refl
+module _ {X : Type 0} (see : SourceId → PlacedSample → Option X) where
+  placed-grown : (w : ℕ) (id : SourceId) (d : Datagram) (p : StretchPlace) (bs : List (List Datagram))
+      → Grown (map (seen_in see w id) bs) (map (seen_in see w id) (placed p (with_samples d []) bs))
+  placed-grown w id d Current [] = passed (
+      ap (λ xs. filter_map (see id) (onto xs []) ∷ [])
+      (placed-none (answer w (counted w []) d.head.sequence)))
+  placed-grown w id d Current (current ∷ closed) = same (
+      ap (λ xs. filter_map (see id) (onto xs (first_placed w current)) ∷ map (seen_in see w id) closed)
+      (placed-none (answer w (counted w (sequences stamp_of current)) d.head.sequence)))
+  placed-grown w id d Next bs = passed (
+      ap (λ xs. filter_map (see id) (onto xs []) ∷ map (seen_in see w id) bs)
+      (placed-none (answer w (counted w []) d.head.sequence)))
+  placed-grown w id d Stale bs = same refl
+
+  pub seen-boots-none : (l : Limits) (items : List Item) (d : Datagram) (k : Source)
+      → Grown (seen_boots see l k items) (seen_boots see l k (Got (with_samples d []) ∷ items))
+  seen-boots-none l items d k = go (same_stream k.stream (stream_of d))
+    where
+      go : (b : Bool) → Grown (seen_boots see l k items)
+          (map (seen_in see l.datagram_width k.id) (boots stamp_of l.boot_slack l.datagram_width
+          (cond b (with_samples d [] ∷ own k.stream items) (own k.stream items))))
+      go false = same refl
+      go true =
+          let bs = stream_boots l k.stream items in
+          placed-grown l.datagram_width k.id d (boot_place stamp_of l.boot_slack l.datagram_width bs (with_samples d [])) bs
 
 pub source-boots-none : (l : Limits) (items : List Item) (d : Datagram) (k : Source)
     → Grown (placed_boots l k items) (placed_boots l k (Got (with_samples d []) ∷ items))
-source-boots-none l items d k = go (same_stream k.stream (stream_of d))
-  where
-    go : (b : Bool) → Grown (placed_boots l k items)
-        (map (placed_readings l.datagram_width k.id) (boots stamp_of l.boot_slack l.datagram_width
-        (cond b (with_samples d [] ∷ own k.stream items) (own k.stream items))))
-    go false = same refl
-    go true =
-        let bs = stream_boots l k.stream items in
-        placed-grown l.datagram_width k.id d (boot_place stamp_of l.boot_slack l.datagram_width bs (with_samples d [])) bs
+source-boots-none l items d k = seen-boots-none placed_reading_of l items d k
+
+pub interface-boots-none : (l : Limits) (items : List Item) (d : Datagram) (k : Source)
+    → Grown (interface_boots l k items) (interface_boots l k (Got (with_samples d []) ∷ items))
+interface-boots-none l items d k = seen-boots-none see_interface l items d k
 
 -- ---- a datagram whose samples aren't entered
 
@@ -113,42 +134,55 @@ placed-at-not_first (answers.First place n) xs not = absurd (true≢false not)
 placed-at-not_first answers.Repeat xs not = refl
 placed-at-not_first answers.Late xs not = refl
 
-placed-not_first : (w : ℕ) (id : SourceId) (d : Datagram) (p : StretchPlace) (bs : List (List Datagram))
-    → is_first (taken_at w p bs d.head.sequence) ≡ false
-    → map (placed_readings w id) (placed p (with_samples d []) bs) ≡ map (placed_readings w id) (placed p d bs)
-placed-not_first w id d Current [] not =
-    ap (λ xs. filter_map (placed_reading_of id) (onto xs []) ∷ [])
-    (placed-at-not_first (answer w (counted w []) d.head.sequence) d.samples not)
-placed-not_first w id d Current (current ∷ closed) not =
-    ap (λ xs. filter_map (placed_reading_of id) (onto xs (first_placed w current)) ∷ map (placed_readings w id) closed)
-    (placed-at-not_first (answer w (counted w (sequences stamp_of current)) d.head.sequence) d.samples not)
-placed-not_first w id d Next bs not = absurd (true≢false not)
-placed-not_first w id d Stale bs not = refl
+module _ {X : Type 0} (see : SourceId → PlacedSample → Option X) where
+  placed-not_first : (w : ℕ) (id : SourceId) (d : Datagram) (p : StretchPlace) (bs : List (List Datagram))
+      → is_first (taken_at w p bs d.head.sequence) ≡ false
+      → map (seen_in see w id) (placed p (with_samples d []) bs) ≡ map (seen_in see w id) (placed p d bs)
+  placed-not_first w id d Current [] not =
+      ap (λ xs. filter_map (see id) (onto xs []) ∷ [])
+      (placed-at-not_first (answer w (counted w []) d.head.sequence) d.samples not)
+  placed-not_first w id d Current (current ∷ closed) not =
+      ap (λ xs. filter_map (see id) (onto xs (first_placed w current)) ∷ map (seen_in see w id) closed)
+      (placed-at-not_first (answer w (counted w (sequences stamp_of current)) d.head.sequence) d.samples not)
+  placed-not_first w id d Next bs not = absurd (true≢false not)
+  placed-not_first w id d Stale bs not = refl
+
+  pub seen-boots-not_first : (l : Limits) (items : List Item) (d : Datagram) (k : Source)
+      → among same_stream (listed_streams l (Got d ∷ items)) k.stream ≡ true
+      → is_first (taken_now l items (Got d)) ≡ false
+      → seen_boots see l k (Got (with_samples d []) ∷ items) ≡ seen_boots see l k (Got d ∷ items)
+  seen-boots-not_first l items d k there not = go (same_stream k.stream (stream_of d)) refl
+    where
+      go : (b : Bool) → same_stream k.stream (stream_of d) ≡ b
+          → map (seen_in see l.datagram_width k.id) (boots stamp_of l.boot_slack l.datagram_width
+          (cond b (with_samples d [] ∷ own k.stream items) (own k.stream items)))
+          ≡ map (seen_in see l.datagram_width k.id) (boots stamp_of l.boot_slack l.datagram_width
+          (cond b (d ∷ own k.stream items) (own k.stream items)))
+      go false e = refl
+      go true e =
+          let this : k.stream ≡ stream_of d = stream-same.to k.stream (stream_of d) e in
+          let bs : List (List Datagram) = stream_boots l k.stream items in
+          let listed_now : among same_stream (listed_streams l (Got d ∷ items)) (stream_of d) ≡ true =
+          ap (among same_stream (listed_streams l (Got d ∷ items))) (sym this) ∙ there in
+          let answered : taken_now l items (Got d) ≡ taken_in l bs d =
+          ap (λ b. cond b (taken_in l (stream_boots l (stream_of d) items) d) Unlisted) listed_now
+          ∙ ap (λ s. taken_in l (stream_boots l s items) d) (sym this) in
+          ap (λ p. map (seen_in see l.datagram_width k.id) (placed p (with_samples d []) bs))
+          (place-same l.boot_slack l.datagram_width bs d [])
+          ∙ placed-not_first l.datagram_width k.id d (boot_place stamp_of l.boot_slack l.datagram_width bs d) bs
+          (ap is_first (sym answered) ∙ not)
 
 pub source-boots-not_first : (l : Limits) (items : List Item) (d : Datagram) (k : Source)
     → among same_stream (listed_streams l (Got d ∷ items)) k.stream ≡ true
     → is_first (taken_now l items (Got d)) ≡ false
     → placed_boots l k (Got (with_samples d []) ∷ items) ≡ placed_boots l k (Got d ∷ items)
-source-boots-not_first l items d k there not = go (same_stream k.stream (stream_of d)) refl
-  where
-    go : (b : Bool) → same_stream k.stream (stream_of d) ≡ b
-        → map (placed_readings l.datagram_width k.id) (boots stamp_of l.boot_slack l.datagram_width
-        (cond b (with_samples d [] ∷ own k.stream items) (own k.stream items)))
-        ≡ map (placed_readings l.datagram_width k.id) (boots stamp_of l.boot_slack l.datagram_width
-        (cond b (d ∷ own k.stream items) (own k.stream items)))
-    go false e = refl
-    go true e =
-        let this : k.stream ≡ stream_of d = stream-same.to k.stream (stream_of d) e in
-        let bs : List (List Datagram) = stream_boots l k.stream items in
-        let listed_now : among same_stream (listed_streams l (Got d ∷ items)) (stream_of d) ≡ true =
-        ap (among same_stream (listed_streams l (Got d ∷ items))) (sym this) ∙ there in
-        let answered : taken_now l items (Got d) ≡ taken_in l bs d =
-        ap (λ b. cond b (taken_in l (stream_boots l (stream_of d) items) d) Unlisted) listed_now
-        ∙ ap (λ s. taken_in l (stream_boots l s items) d) (sym this) in
-        ap (λ p. map (placed_readings l.datagram_width k.id) (placed p (with_samples d []) bs))
-        (place-same l.boot_slack l.datagram_width bs d [])
-        ∙ placed-not_first l.datagram_width k.id d (boot_place stamp_of l.boot_slack l.datagram_width bs d) bs
-        (ap is_first (sym answered) ∙ not)
+source-boots-not_first l items d k there not = seen-boots-not_first placed_reading_of l items d k there not
+
+pub interface-boots-not_first : (l : Limits) (items : List Item) (d : Datagram) (k : Source)
+    → among same_stream (listed_streams l (Got d ∷ items)) k.stream ≡ true
+    → is_first (taken_now l items (Got d)) ≡ false
+    → interface_boots l k (Got (with_samples d []) ∷ items) ≡ interface_boots l k (Got d ∷ items)
+interface-boots-not_first l items d k there not = seen-boots-not_first see_interface l items d k there not
 
 -- ---- how many boots there are
 
@@ -177,3 +211,7 @@ boots-same l items d xs = go (same_stream (stream_of d) (stream_of d))
 pub source-boots-length : (l : Limits) (k : Source) (items : List Item)
     → length (placed_boots l k items) ≡ length (stream_boots l k.stream items)
 source-boots-length l k items = length-map-all (placed_readings l.datagram_width k.id) (stream_boots l k.stream items)
+
+pub interface-boots-length : (l : Limits) (k : Source) (items : List Item)
+    → length (interface_boots l k items) ≡ length (stream_boots l k.stream items)
+interface-boots-length l k items = length-map-all (interface_samples l.datagram_width k.id) (stream_boots l k.stream items)

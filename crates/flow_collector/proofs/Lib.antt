@@ -6,6 +6,10 @@ pub mod Counts
 pub mod Steps
 pub mod Found
 pub mod Moves
+pub mod Paired
+pub mod Marks
+pub mod InterfaceSteps
+pub mod Carried
 pub mod Kept
 pub mod Enters
 pub mod SoFar

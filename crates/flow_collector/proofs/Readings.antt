@@ -1,5 +1,5 @@
 -- What a sample shows is what stands in its value, and how many readings there are.
-use Rattle.std.proofs.Common.{◌≡◌, ℕ, suc, ◌+◌, ◌*◌, ◌/◌, ◌%◌, ◌^◌, true, List, [], ◌∷◌, length, map, refl, sym, ap, subst, ◌∙◌, arith}
+use Rattle.std.proofs.Common.{◌≡◌, ℕ, suc, ◌+◌, ◌*◌, ◌/◌, ◌%◌, ◌^◌, true, Option, List, [], ◌∷◌, length, map, refl, sym, ap, subst, ◌∙◌, arith}
 use Rattle.std.specs.List.{sum_by, count_by}
 use Rattle.std.proofs.lemmas.List.Sums.{sum_by-cons}
 use Rattle.wire_spec.specs.Heads.{AgentAddress, unknown, ipv4, ipv6, address_tree}
@@ -14,20 +14,21 @@ use Rattle.data_format.specs.Views.{FrameView}
 use Rattle.data_format.proofs.Values.{source_of-word, address_in-tree}
 use Rattle.datagram_core.specs.Heads.{DatagramView}
 use Rattle.datagram_core.specs.SampleHeads.{IsFlowIn, AreCountersIn, IsHeadOf}
-use Rattle.datagram_core.specs.Tables.{samples_read}
+use Rattle.datagram_core.specs.Tables.{counter_records_read, samples_read}
 use Rattle.datagram_core.specs.Trees.{tree_of}
 use Rattle.datagram_core.specs.declared.sample_head.SampleHead.{SampleHead}
 use Rattle.datagram_core.specs.declared.sample_head.SampleHead.TheVariants as heads
 use Rattle.books_spec.specs.declared.limits.Limits.{Limits}
 use Rattle.books_spec.specs.declared.reading.SampleReading.{SampleReading}
-use Rattle.books_spec.specs.Items.{Sample, Other, Datagram, Item, Source, flow_sample, counters_sample}
+use Rattle.books_spec.specs.Items.{Sample, Other, Datagram, Item, Source, flow_sample}
 use Rattle.books_spec.specs.Listing.{same_stream, same_source, among}
 use Rattle.books_spec.specs.Books.{listed_streams, sources_of, source_boots}
 use Rattle.books_spec.specs.SourceViews.{PlacedReading}
 use Rattle.books_spec.specs.PlacedSamples.{placed_boots}
 use Rattle.books_spec.proofs.Entered.{readings-are-entered as entered-readings}
 use Rattle.books_spec.proofs.Placed.{reading_in, boots-are}
-use Rattle.flow_collector.specs.Items.{sample_in, samples_in, datagram_in}
+use Rattle.books_spec.specs.InterfaceRise.{InterfaceCounters}
+use Rattle.flow_collector.specs.Items.{first_interface, counters_with, sample_in, samples_in, datagram_in}
 use Rattle.flow_collector.specs.Shown.{flow_of, counters_of}
 
 -- what a head shows stands in the value of its frame
@@ -40,11 +41,15 @@ flow-form Compact f h this =
     ap A (sym (source_of-word h.source this.fits.0)) ∙ ap sample_in (sym this.value)
 flow-form Expanded f h this = ap sample_in (sym this.value)
 
-counters-form : (form : Form) (f : FrameView) (h : CountersHead) → AreCountersIn form f h
-    → counters_of h ≡ sample_in (frame_tree samples_read f)
+-- the counters of the first record of interface counters of a counters sample
+abbrev pub interface_behind : List FrameView → Option InterfaceCounters
+interface_behind frames = first_interface (frame_trees counter_records_read frames)
+
+pub counters-form : (form : Form) (f : FrameView) (h : CountersHead) (this : AreCountersIn form f h)
+    → counters_of h (interface_behind this.frames) ≡ sample_in (frame_tree samples_read f)
 unfolding sample_in
 counters-form Compact f h this =
-    let A : SourceId → Sample = λ i. counters_sample i.class i.index h.sequence in
+    let A : SourceId → Sample = λ i. counters_with i.class i.index h.sequence (interface_behind this.frames) in
     ap A (sym (source_of-word h.source this.fits)) ∙ ap sample_in (sym this.value)
 counters-form Expanded f h this = ap sample_in (sym this.value)
 
@@ -55,12 +60,13 @@ flow-shown x f h is of_frame =
     let this : P (heads.Flow h) = subst P is of_frame in
     flow-form this.0 f h this.1
 
-pub counters-shown : (x : SampleHead) (f : FrameView) (h : CountersHead) → x ≡ heads.Counters h → IsHeadOf f x
-    → counters_of h ≡ sample_in (frame_tree samples_read f)
-counters-shown x f h is of_frame =
+-- a counters sample's head in its form
+pub counters-head : (x : SampleHead) (f : FrameView) (h : CountersHead) → x ≡ heads.Counters h → IsHeadOf f x
+    → (form : Form) × AreCountersIn form f h
+counters-head x f h is of_frame =
     let P : SampleHead → Type 0 = IsHeadOf f in
     let this : P (heads.Counters h) = subst P is of_frame in
-    counters-form this.0 f h this.1
+    this
 
 pub other-shown : (x : SampleHead) (f : FrameView) → x ≡ heads.Other → IsHeadOf f x
     → Other ≡ sample_in (frame_tree samples_read f)

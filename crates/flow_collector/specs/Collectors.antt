@@ -12,6 +12,8 @@ use Rattle.collector_tables.specs.declared.keys.SourceKey.{SourceKey}
 use Rattle.collector_tables.specs.Tables.{Table}
 use Rattle.collector_tables.specs.Listed.{StreamsStand}
 use Rattle.collector_tables.specs.Sources.{SourcesStand}
+use Rattle.if_ledger.specs.Tables.{Ledgers}
+use Rattle.flow_collector.specs.Interfaces.{InterfacesStand}
 use Rattle.flow_collector.specs.declared.collector.Collector.TheInside.{Inside}
 
 -- what contracts see of a collector: what it may hold, its tables, and its counts
@@ -19,6 +21,7 @@ pub record CollectorState : Type 0 where
   pub limits : Limits
   pub streams : Table StreamKey StreamState
   pub sources : Table SourceKey SourceRecord
+  pub interfaces : Ledgers
   pub totals : Totals
 
 abbrev pub collector_state : Inside → CollectorState
@@ -26,6 +29,7 @@ collector_state c = record {
   limits = c.limits;
   streams = c.streams;
   sources = c.sources;
+  interfaces = c.interfaces;
   totals = c.totals;
 }
 
@@ -37,6 +41,8 @@ pub record StandsFor (s : CollectorState) (l : Limits) (items : List Item) : Typ
   pub streams_stand : StreamsStand l s.streams.entries items
   pub sources_stand : SourcesStand (listed_streams l items) l.sources l.sample_width s.sources.entries
       (sources_of l items) (λ k. placed_boots l k items)
+  pub interface_limit : s.interfaces.limit ≡ l.sources
+  pub interfaces_stand : InterfacesStand l items s.interfaces.ledgers
   pub totals_are : s.totals ≡ totals l items
 
 -- a datagram has at most 8,191 samples

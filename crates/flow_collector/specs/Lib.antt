@@ -1,5 +1,6 @@
 pub mod Items
 pub mod Shown
+pub mod Interfaces
 pub mod Collectors
 pub mod Steps
 pub mod Refusals

@@ -1,9 +1,10 @@
-ghost use Rattle.std.specs.Prelude.{◌≡◌, ℕ, ◌+◌, ◌≤◌, ◌<◌, cond, List, [], ◌∷◌, length, slice_get, is_some, if◌then◌else◌, Some, IfOk, IfErr, IfSome};
+ghost use Rattle.std.specs.Prelude.{◌≡◌, ℕ, ◌+◌, ◌≤◌, ◌<◌, cond, List, [], ◌∷◌, length, slice_get, is_some, if◌then◌else◌, Some, None, Option, IfOk, IfErr, IfNone, IfSome};
 ghost use Rattle.std.specs.declared.result.Result.TheVariants.{Err};
 ghost use Rattle.std.specs.Option.{option_map};
 ghost use Rattle.data_format.specs.Trees.{frame_tree, frame_trees};
 ghost use Rattle.data_format.specs.Views.{FrameView};
-ghost use Rattle.datagram_core.specs.SampleHeads.{IsHeadOf};
+ghost use Rattle.data_format.specs.declared.heads.Form.{Form};
+ghost use Rattle.datagram_core.specs.SampleHeads.{AreCountersIn, IsHeadOf};
 ghost use Rattle.datagram_core.specs.Tables.{samples_read};
 ghost use Rattle.datagram_core.specs.Trees.{tree_of};
 ghost use Rattle.books_spec.specs.declared.limits.Limits.{Limits};
@@ -16,17 +17,21 @@ ghost use Rattle.collector_tables.specs.Keys.{stream_in};
 ghost use Rattle.collector_tables.specs.Answers.{answer_in_books};
 ghost use Rattle.collector_views.specs.Views.{stream_shown, source_shown};
 ghost use Rattle.flow_collector.specs.Items.{datagram_in, sample_in, samples_in};
+ghost use Rattle.flow_collector.specs.Interfaces.{interface_shown_of};
 ghost use Rattle.flow_collector.specs.Collectors.{StandsFor};
-ghost use Rattle.flow_collector.specs.Shown.{sample_shown};
+ghost use Rattle.flow_collector.specs.Shown.{sample_shown, carried_in};
 ghost use Rattle.flow_collector.specs.Steps.{is_first, with_samples, with_sample, IsFound, Enters, Midway};
 ghost use Rattle.flow_collector.specs.Refusals.{IsRefusedBy};
 
 use crate::OpenRefusal;
-use crate::shown::{Shown, read_sample};
+use crate::interfaces::{carried_by, enter_carried, interface_view};
+use crate::shown::{Shown, counters_shown, flow_shown};
 use collector_tables::{EnteredAt, SourceKey, SourceTable, StreamKey, StreamTable, TakenAt};
-use collector_views::{FirstFault, Limits, SourceView, StreamView, Totals};
-use data_format::Fault;
+use collector_views::{FirstFault, IfView, Limits, SourceView, StreamView, Totals};
+use data_format::{CountersHead, Fault};
 use datagram_core::{Datagram, SampleHead, Samples};
+use if_ledger::IfTable;
+use rec_counters::IfCounters;
 use std::alloc::Global;
 use std::hash::RandomState;
 use std::marker::Model;
@@ -50,6 +55,8 @@ pub struct Collector {
     limits: Limits,
     streams: StreamTable,
     sources: SourceTable,
+    /// The interface counters of each source, at its place.
+    interfaces: IfTable,
     totals: Totals,
 }
 
@@ -91,10 +98,14 @@ impl Collector {
         let Ok(sources) = SourceTable::open(alloc, limits.sources, seeds.sources) else {
             return Err(OpenRefusal::Memory);
         };
+        let Ok(interfaces) = IfTable::open(alloc, limits.sources) else {
+            return Err(OpenRefusal::Memory);
+        };
         Ok(Collector {
             limits,
             streams,
             sources,
+            interfaces,
             totals: NO_TOTALS,
         })
     }
@@ -171,37 +182,70 @@ impl Collector {
             → StandsFor self.new l (Got (with_samples d (samples_in (frame_trees samples_read samples.entry))) ∷ items) }
     {
         let mut index = 0;
-        while let Some(head) = samples.next_head() {
-            self.enter_sample(found, index, &head);
+        while let Some((head, ahead)) = next_sample(&mut samples) {
+            self.enter_sample(found, index, &head, ahead);
             index += 1;
         }
     }
 
-    // Enters the sample of this index of the datagram, by its head, and answers where it was entered and what its ledger
-    // answered; `None` where its format isn't read or its source isn't listed.
-    fn enter_sample(&mut self, found: &TakenAt, index: u32, head: &SampleHead) -> Option<EnteredAt>
+    // Enters the sample of this index of the datagram, by its head and as the first of those ahead, and answers where it
+    // was entered and what its ledger answered; `None` where its format isn't read or its source isn't listed.
+    fn enter_sample(
+        &mut self,
+        found: &TakenAt,
+        index: u32,
+        head: &SampleHead,
+        ahead: Samples<'_>,
+    ) -> Option<EnteredAt>
         requires midway { Midway self.old found.now index }
         requires few { index ≤ 8190 }
-        ensures stands { (l : Limits) (items : List Item) (d : Given) (f : FrameView) → Enters l items found.now d
-            → length d.samples ≡ index → IsHeadOf f head.now → StandsFor self.old l (Got d ∷ items)
+        ensures stands { (l : Limits) (items : List Item) (d : Given) (f : FrameView) (rest : List FrameView) → Enters l items found.now d
+            → length d.samples ≡ index → ahead.entry ≡ f ∷ rest → IsHeadOf f head.now → StandsFor self.old l (Got d ∷ items)
             → StandsFor self.new l (Got (with_sample d (sample_in (frame_tree samples_read f))) ∷ items) }
     {
-        match read_sample(head) {
-            Some(shown) => self.enter(found, index, shown),
-            None => {
+        match head {
+            SampleHead::Flow(flow) => self.enter(found, index, flow_shown(flow), &None),
+            SampleHead::Counters(counters) => self.enter_counters(found, index, counters, ahead),
+            SampleHead::Other => {
                 self.totals.other += 1;
                 None
             }
         }
     }
 
-    // Enters what a sample shows whose format is read.
-    fn enter(&mut self, found: &TakenAt, index: u32, shown: Shown) -> Option<EnteredAt>
+    // Enters the counters sample of this head, the first of those ahead.
+    #[inline(never)]
+    fn enter_counters(
+        &mut self,
+        found: &TakenAt,
+        index: u32,
+        head: &CountersHead,
+        ahead: Samples<'_>,
+    ) -> Option<EnteredAt>
+        requires midway { Midway self.old found.now index }
+        requires few { index ≤ 8190 }
+        ensures stands { (l : Limits) (items : List Item) (d : Given) (form : Form) (f : FrameView) (rest : List FrameView)
+            → Enters l items found.now d → length d.samples ≡ index → ahead.entry ≡ f ∷ rest → AreCountersIn form f head.now
+            → StandsFor self.old l (Got d ∷ items)
+            → StandsFor self.new l (Got (with_sample d (sample_in (frame_tree samples_read f))) ∷ items) }
+    {
+        let carried = carried_by(ahead);
+        self.enter(found, index, counters_shown(head), &carried)
+    }
+
+    // Enters what a sample shows whose format is read, and the counters of an interface that it may carry.
+    fn enter(
+        &mut self,
+        found: &TakenAt,
+        index: u32,
+        shown: Shown,
+        carried: &Option<IfCounters<'_>>,
+    ) -> Option<EnteredAt>
         requires midway { Midway self.old found.now index }
         requires few { index ≤ 8190 }
         ensures stands { (l : Limits) (items : List Item) (d : Given) → Enters l items found.now d
             → length d.samples ≡ index → StandsFor self.old l (Got d ∷ items)
-            → StandsFor self.new l (Got (with_sample d (sample_shown (Some shown))) ∷ items) }
+            → StandsFor self.new l (Got (with_sample d (sample_shown shown (carried_in carried.now))) ∷ items) }
     {
         let key = SourceKey {
             stream: found.place,
@@ -214,6 +258,7 @@ impl Collector {
             .sources
             .enter(key, width, found.boot, at, shown.reading);
         self.totals.unlisted_samples += none_count(entered.is_some());
+        enter_carried(&mut self.interfaces, &self.sources, &entered, carried);
         entered
     }
 
@@ -289,6 +334,17 @@ impl Collector {
         })
     }
 
+    /// By how much the counters of the interface rose of which the source at a place has samples; `None` exactly where no
+    /// source is there, where it is one of flow samples, or where no First sample of it has a record of interface counters.
+    pub fn interface(&self, place: usize) -> Option<IfView>
+        ensures view { (l : Limits) (items : List Item) → StandsFor self.now l items
+            → result ≡ interface_shown_of l items (slice_get (listed_sources l items) place) }
+    {
+        let (key, _) = self.sources.get(place)?;
+        let ledger = self.interfaces.get(place)?;
+        interface_view(key.kind, ledger)
+    }
+
     /// The counts of all entries, exact after each call.
     pub fn totals(&self) -> Totals
         ensures { (l : Limits) (items : List Item) → StandsFor self.now l items → result ≡ totals l items }
@@ -306,6 +362,18 @@ const NO_TOTALS: Totals = Totals {
     other: 0,
     first_fault: None,
 };
+
+// The head of the first sample that is left, which is then passed, and that sample with those behind it once more; `None`
+// exactly where none is left.
+#[inline(always)]
+fn next_sample<'a>(samples: &mut Samples<'a>) -> Option<(SampleHead, Samples<'a>)>
+    ensures none { IfNone result ((samples.old ≡ []) × (samples.new ≡ [])) }
+    ensures some { IfSome result (λ p. (f : FrameView) × (samples.old ≡ f ∷ samples.new) × IsHeadOf f p.0 × (p.1 ≡ f ∷ samples.new)) }
+{
+    let ahead = samples.fork();
+    let head = samples.next_head()?;
+    Some((head, ahead))
+}
 
 // The first fault, after an entry of this number that has this fault.
 fn first_of(first: Option<FirstFault>, entry: u64, fault: &Fault) -> Option<FirstFault>

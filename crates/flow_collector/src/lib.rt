@@ -3,12 +3,13 @@
 #![tactic(auto)]
 
 mod collector;
+mod interfaces;
 pub mod laws;
 mod refusal;
 mod shown;
 
 pub use collector::{Collector, Seeds};
-pub use collector_views::{FirstFault, LedgerView, Limits, SourceView, StreamView, Totals};
+pub use collector_views::{FirstFault, IfView, LedgerView, Limits, SourceView, StreamView, Totals};
 pub use refusal::OpenRefusal;
 pub use stream_books::Taken;
 

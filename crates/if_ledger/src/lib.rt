@@ -5,8 +5,10 @@
 mod counter;
 mod ledger;
 mod rises;
+mod table;
 
 pub use ledger::IfLedger;
+pub use table::IfTable;
 
 #[cfg(test)]
 mod tests;

@@ -1,11 +1,10 @@
 -- The first answer, from the reading of the header.
-use Rattle.std.proofs.Common.{◌≡◌, ℕ, ◌<◌, List, length, drop, Option, Some, Ok, Err, refl, subst, arith}
+use Rattle.std.proofs.Common.{ℕ, List, drop, Option, Err, refl, subst, arith}
 use Rattle.capture_spec.specs.declared.byte_order.ByteOrder.{ByteOrder}
 use Rattle.capture_spec.specs.PcapFiles.{HasHeader}
 use Rattle.sflow_io.specs.declared.capture.ReadRefusal.{ReadRefusal}
 use Rattle.sflow_io.specs.declared.capture.ReadRefusal.TheVariants.{ReadFault, BadInput, Spent}
-use Rattle.pcap_file.specs.PcapAnswers.{Answer, AnswersBehind, AnswersStart, AnswersWithin, HasNoHeader, ReadsHeader, behind_header, stage_after}
-use Rattle.pcap_file.specs.declared.reading.PcapStage.{PcapStage}
+use Rattle.pcap_file.specs.PcapAnswers.{Answer, AnswersBehind, AnswersStart, AnswersWithin, ReadsHeader, behind_header, stage_after}
 use Rattle.pcap_file.specs.declared.reading.PcapStage.TheVariants.{Ended}
 use Rattle.pcap_file.proofs.Headers.{one_order}
 

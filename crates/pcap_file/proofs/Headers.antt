@@ -1,5 +1,5 @@
 -- What the first bytes of an input say of its header.
-use Rattle.std.proofs.Common.{◌≡◌, ◌≢◌, ℕ, ◌+◌, ◌≤◌, true, false, if◌then◌else◌, List, length, take, drop, get_or, Option, Some, Result, Ok, Err, bytes_eq, refl, sym, ap, subst, ◌∙◌, arith, length-take, length-take-le, length-drop}
+use Rattle.std.proofs.Common.{◌≡◌, ◌≢◌, ℕ, ◌≤◌, true, false, if◌then◌else◌, List, length, take, drop, get_or, Option, Some, Result, Ok, Err, bytes_eq, refl, sym, ap, subst, ◌∙◌, arith, length-take, length-take-le, length-drop}
 use Rattle.std.proofs.lemmas.Bool.{cond_both, both_ways}
 use Rattle.std.proofs.lemmas.Slice.Eq.{bytes_eq-Decides}
 use Rattle.capture_spec.specs.declared.byte_order.ByteOrder.{ByteOrder}
@@ -9,8 +9,8 @@ use Rattle.capture_spec.specs.PcapFiles.{HasHeader, PcapFault, four_at, magic, v
 use Rattle.sflow_io.specs.declared.capture.ReadRefusal.{ReadRefusal}
 use Rattle.sflow_io.specs.declared.capture.ReadRefusal.TheVariants.{ReadFault, BadInput, Spent}
 use Rattle.pcap_file.specs.PcapAnswers.{HasNoHeader, ReadsHeader, header_in, header_reading}
-use Rattle.sflow_io.specs.Seen.{Seen, Fills}
-use Rattle.sflow_io.proofs.Filled.{full_room, front_read}
+use Rattle.byte_ends.specs.Seen.{Seen, Fills}
+use Rattle.byte_ends.proofs.Filled.{full_room, front_read}
 use Rattle.pcap_file.proofs.PacketFronts.{four_of_front}
 
 same : (xs ys : List ℕ) → bytes_eq xs ys ≡ true → xs ≡ ys

@@ -1,12 +1,12 @@
 -- What left a source before a read of it failed.
-use Rattle.std.proofs.Common.{◌≡◌, ℕ, ◌+◌, ◌<◌, ◌≤◌, List, ◌++◌, length, take, drop, Option, sym, ap, subst, ◌∙◌, arith, length-append, length-drop, take_all, take_at, drop_at}
+use Rattle.std.proofs.Common.{◌≡◌, ℕ, ◌<◌, ◌≤◌, List, ◌++◌, length, take, Option, sym, ap, subst, ◌∙◌, arith, length-append, take_all, take_at}
 use Rattle.std.proofs.KnownBytes.{Consumes-trans}
 use Rattle.std.specs.Io.KnownBytes.{Consumes}
 use Rattle.capture_spec.specs.declared.byte_order.ByteOrder.{ByteOrder}
 use Rattle.capture_spec.specs.PcapFiles.{word_of, captured_at, four_at}
 use Rattle.capture_spec.proofs.PacketWalks.{holds_size}
-use Rattle.sflow_io.specs.Seen.{Seen, Fills}
-use Rattle.sflow_io.specs.ReadFaults.{StopsWithin}
+use Rattle.byte_ends.specs.Seen.{Seen, Fills}
+use Rattle.byte_ends.specs.Unread.{StopsWithin}
 use Rattle.pcap_file.specs.PcapFaults.{HasNoPacket, StopsInPacket}
 use Rattle.pcap_file.proofs.PacketFronts.{four_of_front}
 

@@ -4,8 +4,8 @@ use Rattle.std.proofs.lemmas.List.{drop-take, nil_from_length}
 use Rattle.capture_spec.specs.declared.byte_order.ByteOrder.{ByteOrder}
 use Rattle.capture_spec.specs.PcapFiles.{Stops, Holds, EndsWithin, IsTooLong, word_of, four_at, arrival_at, captured_at, front_of, front_of_packet, front_of_bytes}
 use Rattle.capture_spec.proofs.PacketWalks.{end_stops}
-use Rattle.sflow_io.specs.Seen.{Seen, Fills}
-use Rattle.sflow_io.proofs.Filled.{full_room, short_room, front_read}
+use Rattle.byte_ends.specs.Seen.{Seen, Fills}
+use Rattle.byte_ends.proofs.Filled.{full_room, short_room, front_read}
 
 -- ---- the bytes: `room` is for them, and stands before other bytes
 

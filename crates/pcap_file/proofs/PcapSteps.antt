@@ -4,10 +4,10 @@ use Rattle.std.proofs.lemmas.Bool.{cases_lt}
 use Rattle.wire_spec.specs.declared.input_kind.InputKind.{InputKind}
 use Rattle.wire_spec.specs.declared.input_kind.InputKind.TheVariants.{Long, Cut}
 use Rattle.capture_spec.specs.declared.byte_order.ByteOrder.{ByteOrder}
-use Rattle.capture_spec.specs.PcapFiles.{Holds, Packet, PcapFault, PcapFile, Stops, Walks, front_of, packets_length}
+use Rattle.capture_spec.specs.PcapFiles.{Holds, Packet, PcapFault, PcapFile, Walks, front_of, packets_length}
 use Rattle.capture_spec.proofs.PacketWalks.{stops_at_end}
-use Rattle.sflow_io.specs.ReadFaults.{StopsWithin}
-use Rattle.sflow_io.proofs.ReadFaults.{moved}
+use Rattle.byte_ends.specs.Unread.{StopsWithin}
+use Rattle.byte_ends.proofs.Unread.{moved}
 use Rattle.sflow_io.specs.declared.capture.ReadRefusal.{ReadRefusal}
 use Rattle.sflow_io.specs.declared.capture.ReadRefusal.TheVariants as refusal
 use Rattle.pcap_file.specs.declared.reading.PcapNext.TheVariants as next
@@ -15,7 +15,7 @@ use Rattle.pcap_file.specs.declared.reading.PcapStage.{PcapStage}
 use Rattle.pcap_file.specs.declared.reading.PcapStage.TheVariants as stage
 use Rattle.pcap_file.specs.PcapAnswers.{Answer, AnswersFront, AnswersLast, AnswersWithin, FaultsAt, GivesPacket, HasEnded, ReadsHeader, stage_after}
 use Rattle.pcap_file.specs.PcapFaults.{FileThen, StopsBehind, StopsInPacket}
-use Rattle.pcap_file.specs.PcapSteps.{BeginsWithPackets, EndsAt, FaultBehind, HasGivenAt, IsAllOf, IsBehind, with_answer}
+use Rattle.pcap_file.specs.PcapSteps.{BeginsWithPackets, EndsAt, HasGivenAt, IsBehind, with_answer}
 
 same_list : (a b : List ℕ) → Some a ≡ Some b → a ≡ b
 same_list a b e = cc

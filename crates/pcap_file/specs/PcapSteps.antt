@@ -3,8 +3,8 @@ use Rattle.std.specs.Prelude.{◌≡◌, ℕ, ◌+◌, ◌^◌, ◌<◌, ◌≤�
 use Rattle.wire_spec.specs.declared.input_kind.InputKind.{InputKind}
 use Rattle.capture_spec.specs.declared.byte_order.ByteOrder.{ByteOrder}
 use Rattle.capture_spec.specs.PcapFiles.{Packet, PcapFault, PcapFile, front_of, packets_length}
-use Rattle.sflow_io.specs.CaptureAnswers.{unread}
-use Rattle.sflow_io.specs.Seen.{Seen}
+use Rattle.byte_ends.specs.Unread.{unread}
+use Rattle.byte_ends.specs.Seen.{Seen}
 use Rattle.sflow_io.specs.declared.capture.ReadRefusal.TheVariants as refusal
 use Rattle.pcap_file.specs.declared.reading.PcapNext.TheVariants as next
 use Rattle.pcap_file.specs.declared.reading.PcapStage.{PcapStage}

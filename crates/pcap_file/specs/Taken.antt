@@ -1,15 +1,10 @@
 -- What contracts see of a payload that was read.
 use Rattle.std.specs.Prelude.{Result, Ok, Err}
-use Rattle.data_format.specs.Addresses.{address_of}
 use Rattle.capture_spec.specs.declared.passed.Passed.{Passed}
-use Rattle.capture_spec.specs.Items as items
 use Rattle.capture_spec.specs.Payloads as spec
 use Rattle.capture_spec.specs.Payloads.{PayloadOutcome}
-use Rattle.pcap_file.specs.declared.payload.Sender.{Sender}
+use Rattle.sflow_io.specs.Senders.{sender_of}
 use Rattle.pcap_file.specs.declared.payload.Payload.{Payload}
-
-abbrev pub sender_of : Sender → items.Sender
-sender_of s = record { address = address_of s.address; port = s.port }
 
 -- its sender, and the bytes that it points at
 abbrev pub payload_value : Payload → spec.Payload

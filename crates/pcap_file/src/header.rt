@@ -1,12 +1,13 @@
 ghost use Rattle.std.specs.Prelude.{◌≡◌, ◌≢◌, ℕ, List, Some, Err, bytes_eq};
 ghost use Rattle.sflow_io.specs.declared.capture.ReadRefusal.TheVariants.{BadInput, ReadFault};
 ghost use Rattle.capture_spec.specs.PcapFiles.{four_at, version, ethernet};
-ghost use Rattle.sflow_io.specs.CaptureAnswers.{HasReadCause, unread};
-ghost use Rattle.sflow_io.specs.ReadFaults.{StopsWithin};
+ghost use Rattle.byte_ends.specs.Unread.{unread};
+ghost use Rattle.sflow_io.specs.CaptureAnswers.{HasReadCause};
+ghost use Rattle.byte_ends.specs.Unread.{StopsWithin};
 ghost use Rattle.pcap_file.specs.PcapAnswers.{ReadsHeader, header_in, header_reading};
 
-use crate::read_ahead::ReadAhead;
 use crate::{ReadRefusal, Source};
+use byte_ends::ReadAhead;
 use capture_spec::ByteOrder;
 use wire_spec::InputKind;
 

@@ -5,14 +5,13 @@ mod header;
 mod packet_reader;
 mod payload;
 mod pcap_reader;
-mod read_ahead;
 mod reading;
 
 pub use capture_spec::{ByteOrder, Passed};
-pub use payload::{Payload, Sender, read_payload};
+pub use payload::{Payload, read_payload};
 pub use pcap_reader::PcapReader;
 pub use reading::{PcapNext, PcapStage};
-pub use sflow_io::{Memory, ReadRefusal, Source};
+pub use sflow_io::{Memory, ReadRefusal, Sender, Source};
 pub use wire_spec::InputKind;
 
 #[cfg(test)]

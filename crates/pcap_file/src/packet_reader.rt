@@ -1,14 +1,15 @@
 // A packet, read from its first byte on.
 ghost use Rattle.std.specs.Prelude.{◌≡◌, ◌+◌, ◌^◌, ◌<◌, ◌≤◌, ℕ, List, Some, Err, length, drop};
-ghost use Rattle.sflow_io.specs.ReadFaults.{StopsWithin};
+ghost use Rattle.byte_ends.specs.Unread.{StopsWithin};
 ghost use Rattle.sflow_io.specs.declared.capture.ReadRefusal.TheVariants.{ReadFault};
 ghost use Rattle.pcap_file.specs.PcapFaults.{StopsInPacket};
 ghost use Rattle.capture_spec.specs.PcapFiles.{word_of, arrival_at, captured_at, front_of, front_of_bytes};
-ghost use Rattle.sflow_io.specs.CaptureAnswers.{HasReadCause, unread};
+ghost use Rattle.byte_ends.specs.Unread.{unread};
+ghost use Rattle.sflow_io.specs.CaptureAnswers.{HasReadCause};
 ghost use Rattle.pcap_file.specs.PcapAnswers.{AnswersFront, AnswersLast, EndsSource, IsNoPacket, IsShortPacket};
 
-use crate::read_ahead::ReadAhead;
 use crate::{PcapNext, ReadRefusal, Source};
+use byte_ends::ReadAhead;
 use capture_spec::ByteOrder;
 use wire_spec::InputKind;
 

@@ -6,18 +6,13 @@ ghost use Rattle.pcap_file.specs.Taken.{outcome_of};
 
 use capture_spec::Passed;
 use data_format::Address;
+use sflow_io::Sender;
 
 // The port of sFlow.
 const PORT: u16 = 6343;
 
-/// Who sent a datagram: the source address of IP (RFC 791, RFC 8200), and the source port of UDP (RFC 768).
-#[derive(Clone, Copy, Debug, PartialEq, Eq)]
-pub struct Sender {
-    pub address: Address,
-    pub port: u16,
-}
-
-/// The payload of a UDP datagram, at most 65,527 bytes of the packet that holds it, and its sender.
+/// The payload of a UDP datagram, at most 65,527 bytes of the packet that holds it, and its sender: the source
+/// address of IP (RFC 791, RFC 8200), and the source port of UDP (RFC 768).
 #[derive(Clone, Copy, Debug)]
 pub struct Payload<'a> {
     pub sender: Sender,

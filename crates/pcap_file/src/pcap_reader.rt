@@ -4,15 +4,16 @@ ghost use Rattle.sflow_io.specs.declared.capture.ReadRefusal.TheVariants.{ReadFa
 ghost use Rattle.capture_spec.specs.PcapFiles.{Packet};
 ghost use Rattle.pcap_file.specs.PcapFaults.{StopsInPacket};
 ghost use Rattle.pcap_file.specs.PcapSteps.{HasGiven, IsBehind, LeadsOn, with_answer};
-ghost use Rattle.sflow_io.specs.Seen.{Seen};
+ghost use Rattle.byte_ends.specs.Seen.{Seen};
 ghost use Rattle.pcap_file.specs.declared.reading.PcapStage.TheVariants.{Within, Ended};
-ghost use Rattle.sflow_io.specs.CaptureAnswers.{HasReadCause, unread};
+ghost use Rattle.byte_ends.specs.Unread.{unread};
+ghost use Rattle.sflow_io.specs.CaptureAnswers.{HasReadCause};
 ghost use Rattle.pcap_file.specs.PcapAnswers.{Answer, Answers, AnswersWithin, EndsSource, HasEnded, IsFresh, IsPlaced, IsShortPacket, IsStageAfter, KeepsLimits, ReaderState, stage_after};
 
 use crate::header::read_header;
 use crate::packet_reader::{read_end, read_packet};
-use crate::read_ahead::ReadAhead;
 use crate::{PcapNext, PcapStage, ReadRefusal, Source};
+use byte_ends::ReadAhead;
 use capture_spec::ByteOrder;
 use sflow_io::Memory;
 use std::alloc::Global;

@@ -12,8 +12,8 @@ use Rattle.pcap_file.specs.PcapAnswers.{HasEnded, IsFresh, IsStageAfter, ReaderS
 use Rattle.pcap_file.specs.PcapSteps.{HasGiven, packets_given, with_answer}
 use Rattle.pcap_file.proofs.PcapSteps.{given_front}
 use Rattle.sflow_io.specs.declared.capture.ReadRefusal.{ReadRefusal}
-use Rattle.sflow_io.specs.CaptureAnswers.{unread}
-use Rattle.sflow_io.specs.Seen.{Seen, TakesPart}
+use Rattle.byte_ends.specs.Unread.{unread}
+use Rattle.byte_ends.specs.Seen.{Seen, TakesPart}
 use Rattle.text_lines.specs.Pages.{Puts}
 use Rattle.text_lines.proofs.PageLaws.{puts_none, puts_both, puts_part}
 use Rattle.pcap_payloads.specs.declared.packet_counts.PacketCounts.{PacketCounts}

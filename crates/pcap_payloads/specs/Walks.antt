@@ -6,7 +6,7 @@ use Rattle.capture_spec.specs.declared.pcap_output.PcapOutput.{PcapOutput}
 use Rattle.pcap_file.specs.PcapSteps.{BeginsWithPackets, EndsAt, IsAllOf}
 use Rattle.sflow_io.specs.declared.capture.ReadRefusal.{ReadRefusal}
 use Rattle.sflow_io.specs.declared.capture.ReadRefusal.TheVariants as refusals
-use Rattle.sflow_io.specs.Seen.{Seen, TakesPart, next_count}
+use Rattle.byte_ends.specs.Seen.{Seen, TakesPart, next_count}
 use Rattle.text_lines.specs.Pages.{Puts}
 use Rattle.pcap_payloads.specs.declared.packet_counts.PacketCounts.{PacketCounts}
 use Rattle.pcap_payloads.specs.declared.packets.WalkStop.{WalkStop}

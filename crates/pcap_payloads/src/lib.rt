@@ -8,3 +8,4 @@ mod sent_items;
 pub use capture_spec::PcapOutput;
 pub use packet_counts::PacketCounts;
 pub use packets::{WalkStop, put_last, take_packets};
+pub use sent_items::{put_end_item, put_item, put_padded};

@@ -3,8 +3,8 @@ ghost use Rattle.std.specs.Prelude.{◌≡◌, ◌<◌, ◌^◌, [], Ok, Err};
 ghost use Rattle.capture_spec.specs.Payloads.{Payload as Found};
 ghost use Rattle.text_lines.specs.Pages.{Prints};
 
+use byte_ends::{Failed, Sink};
 use pcap_file::Passed;
-use sflow_io::{Failed, Sink};
 use text_lines::{Page, Piece};
 
 /// How many packets have a payload, and how many are passed over by each rule.

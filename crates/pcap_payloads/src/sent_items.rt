@@ -2,14 +2,13 @@
 ghost use Rattle.std.specs.Prelude.{◌≡◌, ◌≤◌, ◌++◌, length};
 ghost use Rattle.capture_spec.specs.Items.{datagram_bytes, end_item, item_front, item_head, sent_bytes, word as word_bytes};
 ghost use Rattle.data_format.specs.Addresses.{address_of};
-ghost use Rattle.pcap_file.specs.Taken.{sender_of};
+ghost use Rattle.sflow_io.specs.Senders.{sender_of};
 ghost use Rattle.text_lines.specs.Pages.{Prints};
 ghost use Rattle.wire_spec.specs.Spelling.{padded};
 ghost use Rattle.pcap_payloads.specs.Outcomes.{header_behind};
 
 use data_format::Address;
-use pcap_file::Sender;
-use sflow_io::{Failed, Sink};
+use sflow_io::{Failed, Sender, Sink};
 use text_lines::Page;
 
 // The magic, and the version 2 as a word.
@@ -104,8 +103,8 @@ fn put_front<K: Sink>(
     }
 }
 
-// The bytes, and zeros up to a multiple of four.
-fn put_padded<K: Sink>(page: &mut Page, sink: &mut K, bytes: &[u8]) -> Result<(), Failed>
+/// Puts the bytes, and zeros up to a multiple of four.
+pub fn put_padded<K: Sink>(page: &mut Page, sink: &mut K, bytes: &[u8]) -> Result<(), Failed>
     ensures { Prints (K.seen sink.old) (K.seen sink.new) page.old page.new result (padded bytes.now) }
 {
     page.put(sink, bytes)?;
@@ -121,8 +120,8 @@ fn put_datagram<K: Sink>(page: &mut Page, sink: &mut K, bytes: &[u8]) -> Result<
     put_padded(page, sink, bytes)
 }
 
-// An entry item.
-pub(crate) fn put_item<K: Sink>(
+/// Puts an entry item of a capture of version 2. There are at most 65,535 bytes.
+pub fn put_item<K: Sink>(
     page: &mut Page,
     sink: &mut K,
     at: u64,
@@ -137,11 +136,18 @@ pub(crate) fn put_item<K: Sink>(
     put_datagram(page, sink, bytes)
 }
 
+/// Puts the end item of a capture of version 2, behind so many entries.
+pub fn put_end_item<K: Sink>(page: &mut Page, sink: &mut K, count: u64) -> Result<(), Failed>
+    ensures { Prints (K.seen sink.old) (K.seen sink.new) page.old page.new result (end_item count) }
+{
+    page.put(sink, &end_of(count))
+}
+
 // The end item behind so many entries, and before it the header if there were none.
 pub(crate) fn put_end<K: Sink>(page: &mut Page, sink: &mut K, taken: u64) -> Result<(), Failed>
     ensures { Prints (K.seen sink.old) (K.seen sink.new) page.old page.new result
         (header_behind taken ++ end_item taken) }
 {
     put_header_behind(page, sink, taken)?;
-    page.put(sink, &end_of(taken))
+    put_end_item(page, sink, taken)
 }

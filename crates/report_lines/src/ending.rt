@@ -3,9 +3,9 @@ ghost use Rattle.text_lines.specs.Pages.{Prints};
 ghost use Rattle.report_lines.specs.Lines.{first_fault_text, fault_line, total_text};
 ghost use Rattle.report_lines.specs.Reports.{end_text};
 
+use byte_ends::{Failed, Sink};
 use collector_views::{FirstFault, Totals};
 use data_format::Fault;
-use sflow_io::{Failed, Sink};
 use text_lines::{Page, Piece};
 
 /// Puts the line of the first fault, where an entry was malformed, and the line of totals.

@@ -2,8 +2,8 @@ ghost use Rattle.text_lines.specs.Pages.{Prints};
 ghost use Rattle.collector_views.specs.Views.{source_shown};
 ghost use Rattle.report_lines.specs.Lines.{source_text, flow_text, counters_text};
 
+use byte_ends::{Failed, Sink};
 use collector_views::SourceView;
-use sflow_io::{Failed, Sink};
 use text_lines::{Page, Piece};
 
 /// Puts the line of a source. One of flow samples has the rise of the pool, the drops and the rate besides.

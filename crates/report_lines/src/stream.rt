@@ -2,8 +2,8 @@ ghost use Rattle.text_lines.specs.Pages.{Prints};
 ghost use Rattle.collector_views.specs.Views.{stream_shown};
 ghost use Rattle.report_lines.specs.Lines.{stream_text};
 
+use byte_ends::{Failed, Sink};
 use collector_views::StreamView;
-use sflow_io::{Failed, Sink};
 use text_lines::{Page, Piece};
 
 /// Puts the line of a stream, whose number counts from 1 in order of first arrival.

@@ -6,3 +6,7 @@ mod flow;
 
 pub use counters::CountersSampleX;
 pub use flow::FlowSampleX;
+
+/// The expanded form of heads. Each source and port has a spelling in it.
+#[derive(Clone, Copy, Drop)]
+pub struct ExpandedForm;

@@ -6,3 +6,7 @@ mod flow;
 
 pub use counters::CountersSample;
 pub use flow::FlowSample;
+
+/// The compact form of heads. `compact` of each source and port that is written answers a word.
+#[derive(Clone, Copy, Drop)]
+pub struct CompactForm;

@@ -2,13 +2,19 @@
 #![tactic(auto)]
 
 mod brief;
+mod briefing;
+mod class_totals;
 mod count_tap;
+pub mod laws;
 mod length_tap;
+pub mod rows;
 mod tap;
 mod taps;
 mod top_port_tap;
 
-pub use brief::Brief;
+pub use brief::{Brief, Sampled};
+pub use briefing::Briefing;
+pub use class_totals::ClassTotals;
 pub use count_tap::CountTap;
 pub use header_lanes::{Address, HeaderFacts, Kind};
 pub use length_tap::LengthTap;

@@ -1,4 +1,6 @@
-use crate::{Brief, CountTap, HeaderFacts, LengthTap, Line, Tap, Taps, TopPortTap};
+use crate::{
+    Brief, Briefing, CountTap, HeaderFacts, LengthTap, Line, Sampled, Tap, Taps, TopPortTap,
+};
 use std::cell::Cell;
 use std::rc::Rc;
 use std::test::Fail;
@@ -87,5 +89,34 @@ fn lines_tell_the_counts(rt: HostRuntime) -> Result<(), Fail> {
     }
     assert!(rt; lengths.line().as_str() == "tap length 2 2 0 0 0 0 1");
     assert!(rt; ports.line().as_str() == "tap port 80 count 2");
+    Ok(())
+}
+
+// Seventeen headers of IPv6 are more than a batch: all are counted, and all go to the consumer.
+#[test]
+fn a_batch_and_one_more(rt: HostRuntime) -> Result<(), Fail> {
+    let mut boxes: Vec<Box<dyn Tap>> = Vec::new(rt.alloc());
+    boxes.push(Box::new(rt.alloc(), CountTap::new(100))?)?;
+    let mut taps = Taps::new(boxes);
+    let mut briefing = Briefing::new();
+    let sampled = Sampled {
+        stream: 1,
+        class: 0,
+        index: 5,
+        rate: 1000,
+        frame_length: 64,
+    };
+    for _ in 0..17 {
+        if taps.len() < 100 && taps.ended() < 100 {
+            briefing.push(&mut taps, &sampled, 12, &[0x60; 40]);
+        }
+    }
+    if taps.len() < 100 && taps.ended() < 100 {
+        briefing.finish(&mut taps);
+    }
+    assert!(rt; briefing.totals().ipv6 == 17 && briefing.totals().headers() == 17);
+    if taps.len() == 1 {
+        assert!(rt; taps.line(0).as_str() == "tap headers 17");
+    }
     Ok(())
 }

@@ -1,6 +1,6 @@
 ghost use Rattle.std.specs.Prelude.{◌≡◌, ◌<◌, ◌≤◌, ◌^◌, length};
 ghost use Rattle.wire_spec.specs.Captures.{capture_header, entry_bytes, entry_head};
-ghost use Rattle.sflow_io.specs.Seen.{WritesAll};
+ghost use Rattle.byte_ends.specs.Seen.{WritesAll};
 
 use crate::capture_header::HEADER;
 use crate::{Failed, Sink, WriteFault, write_all};

@@ -1,15 +1,13 @@
 ghost use Rattle.std.specs.Prelude.{◌≡◌, ◌+◌, ◌<◌, ◌≤◌, ◌^◌, length, IfOk, OnOk, OnErr};
 ghost use Rattle.wire_spec.specs.Captures.{capture_header};
 ghost use Rattle.capture_spec.specs.Items.{end_item, sent_bytes};
-ghost use Rattle.sflow_io.specs.Seen.{WritesAll};
+ghost use Rattle.byte_ends.specs.Seen.{WritesAll};
 ghost use Rattle.sflow_io.specs.Senders.{sender_of};
 
+use crate::capture_header::HEADER_OF_ITEMS;
 use crate::item_writer::{end_of, write_item};
 use crate::{Failed, Sender, Sink, WriteFault, write_all};
 use std::marker::Model;
-
-/// The magic, and the version 2 as a word.
-const HEADER: [u8; 8] = *b"SFLC\0\0\0\x02";
 
 /// A writer of a capture of version 2, entry by entry, each with its sender. It holds nothing back. It is seen as
 /// the number of entries that it has written.
@@ -36,7 +34,7 @@ impl CaptureWriter2 {
         ensures writes { WritesAll (K.seen sink.old) (K.seen sink.new) result (capture_header 2) }
         ensures begun { IfOk result (λ w. w ≡ 0) }
     {
-        match write_all(sink, HEADER.as_slice()) {
+        match write_all(sink, HEADER_OF_ITEMS.as_slice()) {
             Ok(()) => Ok(CaptureWriter2 { entries: 0 }),
             Err(Failed) => Err(WriteFault),
         }

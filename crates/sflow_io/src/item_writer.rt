@@ -2,7 +2,7 @@
 ghost use Rattle.std.specs.Prelude.{◌≡◌, ◌≤◌, ◌++◌, length};
 ghost use Rattle.wire_spec.specs.Heads.{unknown};
 ghost use Rattle.capture_spec.specs.Items.{datagram_bytes, end_item, item_front, item_head, sent_bytes, word};
-ghost use Rattle.sflow_io.specs.Seen.{WritesAll};
+ghost use Rattle.byte_ends.specs.Seen.{WritesAll};
 ghost use Rattle.sflow_io.specs.Senders.{sender_of};
 
 use crate::{Failed, Sender, Sink, write_all};

@@ -1,7 +1,4 @@
-//! Sources and sinks of bytes, over memory and over the standard streams. Each counts its own faults.
-//!
-//! The standard streams tell nothing of their bytes, so no clause ties what they move to the stream: an
-//! input that is always at its end would keep its contract. They are only tried by tests and programs.
+//! Captures over sources and sinks of bytes, read and written entry by entry.
 #![tactic(auto)]
 
 mod capture;
@@ -10,30 +7,22 @@ mod capture_reader;
 mod capture_writer;
 mod capture_writer2;
 mod entry_reader;
-mod input;
+mod item_reader;
 mod item_writer;
-mod memory_sink;
-mod memory_source;
-mod output;
-mod read_ahead;
-mod retry;
+mod part;
 mod sender;
-mod sink;
-mod source;
 
+pub use byte_ends::{
+    Failed, InputSource, MemorySink, MemorySource, OutputSink, ReadAhead, Sink, Source, read_most,
+    write_all,
+};
 pub use capture::{Memory, Next, ReadRefusal, Stage, WriteFault};
 pub use capture_reader::CaptureReader;
+pub use capture_spec::CaptureVersion;
 pub use capture_writer::CaptureWriter;
 pub use capture_writer2::CaptureWriter2;
-pub use input::InputSource;
-pub use memory_sink::MemorySink;
-pub use memory_source::MemorySource;
-pub use output::OutputSink;
-pub use read_ahead::ReadAhead;
 pub use sender::Sender;
-pub use sink::{Sink, write_all};
-pub use source::{Source, read_most};
-pub use wire_spec::{Failed, InputKind};
+pub use wire_spec::InputKind;
 
 #[cfg(test)]
 mod tests;

@@ -1,122 +1,24 @@
-use crate::read_ahead::new_room;
-use crate::retry::{read_again, write_again};
+ghost use Rattle.std.specs.Prelude.{◌≡◌, IfOk, vec_len};
+
 use crate::{
-    CaptureReader, CaptureWriter, Failed, InputSource, MemorySink, MemorySource, Next, OutputSink,
-    Sink, Source, read_most,
+    CaptureReader, CaptureWriter, CaptureWriter2, MemorySink, MemorySource, Next, Sender, read_most,
 };
-use std::alloc::{AllocError, Allocator};
-use std::fmt::Display;
-use std::io::{self, BufRead, ErrorKind, Input, Lines, Print, Read, Write};
+use data_format::Address;
+use std::alloc::{AllocError, Global};
 use std::test::Fail;
-
-// A stream whose first two calls are interrupted and whose fourth fails.
-#[derive(Drop)]
-struct Halting {
-    calls: u64,
-}
-
-impl Halting {
-    fn call(&mut self) -> io::Result<()> {
-        self.calls = self.calls.saturating_add(1);
-        match self.calls {
-            1 | 2 => Err(ErrorKind::Interrupted.into()),
-            4 => Err(ErrorKind::BrokenPipe.into()),
-            _ => Ok(()),
-        }
-    }
-}
-
-impl Read for Halting {
-    fn read(&mut self, room: &mut [u8]) -> io::Result<usize> {
-        self.call()?;
-        Ok(room.len())
-    }
-}
-
-impl Write for Halting {
-    fn write(&mut self, bytes: &[u8]) -> io::Result<usize> {
-        self.call()?;
-        Ok(bytes.len())
-    }
-
-    fn flush(&mut self) -> io::Result<()> {
-        Ok(())
-    }
-}
-
-#[test]
-fn interrupted_calls_are_made_again(rt: HostRuntime) {
-    let mut input = Halting { calls: 0 };
-    let mut output = Halting { calls: 0 };
-    let mut room = [0u8; 3];
-    assert!(rt; matches!(read_again(&mut input, &mut room), Ok(3)));
-    assert!(rt; read_again(&mut input, &mut room).is_err());
-    assert!(rt; matches!(write_again(&mut output, b"abc"), Ok(3)));
-    assert!(rt; write_again(&mut output, b"abc").is_err());
-    assert!(rt; input.calls == 4 && output.calls == 4);
-}
-
-// A runtime whose output is closed and whose input can't be read.
-#[derive(Clone, Copy, Drop)]
-struct Broken;
-
-#[derive(Clone, Copy, Drop)]
-struct BrokenInput;
-
-impl Print for Broken {
-    fn print<D: Display + Drop>(&self, _value: D) -> io::Result<()> {
-        Err(ErrorKind::BrokenPipe.into())
-    }
-
-    fn println<D: Display + Drop>(&self, _value: D) -> io::Result<()> {
-        Err(ErrorKind::BrokenPipe.into())
-    }
-
-    fn write_all(&self, _bytes: &[u8]) -> io::Result<()> {
-        Err(ErrorKind::BrokenPipe.into())
-    }
-}
-
-impl Read for BrokenInput {
-    fn read(&mut self, _room: &mut [u8]) -> io::Result<usize> {
-        Err(ErrorKind::InvalidInput.into())
-    }
-}
-
-impl BufRead for BrokenInput {
-    fn fill_buf(&mut self) -> io::Result<&[u8]> {
-        Err(ErrorKind::InvalidInput.into())
-    }
-
-    fn consume(&mut self, _amount: usize) {}
-}
-
-impl Input for Broken {
-    type Reader = BrokenInput;
-
-    fn read_line<A: Allocator + Clone>(&self, _text: &mut String<A>) -> io::Result<usize> {
-        Err(ErrorKind::InvalidInput.into())
-    }
-
-    fn lines<A: Allocator>(&self, alloc: A) -> Lines<BrokenInput, A> {
-        BrokenInput.lines(alloc)
-    }
-
-    fn reader(&self) -> BrokenInput {
-        BrokenInput
-    }
-}
-
-#[test]
-fn failures_of_the_standard_streams_are_told(rt: HostRuntime) {
-    assert_eq!(rt; InputSource::new(Broken).read(&mut [0u8; 3]), Err(Failed));
-    assert_eq!(rt; OutputSink::new(Broken).write(b"abc"), Err(Failed));
-}
 
 // Datagrams of all paddings, and how many bytes their capture has.
 const ENTRIES: [(u64, &[u8]); 4] = [(1000, b"abcd"), (0, b""), (u64::MAX, b"a"), (2, b"bcd")];
 
 const LENGTH: usize = 8 + 16 + 12 + 16 + 16;
+
+const ROOM: usize = 1 << 16;
+
+fn new_room(alloc: Global) -> Result<Vec<u8>, AllocError>
+    ensures { IfOk result (λ room. vec_len room ≡ 65536) }
+{
+    Ok(vec![in alloc; 0; ROOM]?)
+}
 
 fn open_reader(rt: &HostRuntime) -> Result<CaptureReader, AllocError> {
     CaptureReader::open(rt.alloc()).or(Err(AllocError))
@@ -144,10 +46,64 @@ fn what_is_written_is_read(rt: HostRuntime) -> Result<(), Fail> {
     let mut reader = open_reader(&rt)?;
     for (at, bytes) in ENTRIES {
         let len = bytes.len();
-        assert_eq!(rt; reader.next(&mut source, room), Ok(Next::Entry { at, len }));
+        let next = Next::Entry {
+            at,
+            from: None,
+            len,
+        };
+        assert_eq!(rt; reader.next(&mut source, room), Ok(next));
         assert!(rt; len <= room.len());
         assert_eq!(rt; &room[..len], bytes);
     }
     assert_eq!(rt; reader.next(&mut source, room), Ok(Next::End));
+    Ok(())
+}
+
+const FROM: [Address; 3] = [
+    Address::Unknown,
+    Address::V4([10, 0, 0, 9]),
+    Address::V6([7; 16]),
+];
+
+const SENT_LENGTH: usize = 8 + 28 + 32 + 44 + 12;
+
+#[test]
+fn what_is_written_with_senders_is_read(rt: HostRuntime) -> Result<(), Fail> {
+    let mut memory = new_room(rt.alloc())?;
+    let room = memory.as_mut_slice();
+    let mut sink = MemorySink::new(rt.alloc(), 200, Vec::new(rt.alloc()));
+    let begun = CaptureWriter2::begin(&mut sink);
+    assert!(rt; begun.is_ok());
+    if let Ok(mut writer) = begun {
+        for address in FROM {
+            let from = Sender {
+                address,
+                port: 6343,
+            };
+            assert!(rt; writer.entries() < 1 << 48);
+            assert_eq!(rt; writer.entry(&mut sink, 1000, &from, b"abc"), Ok(()));
+        }
+        assert_eq!(rt; writer.end(&mut sink), Ok(()));
+    }
+    assert_eq!(rt; sink.bytes().len(), SENT_LENGTH);
+    let bytes = Vec::from_slice(rt.alloc(), sink.bytes())?;
+    let mut source = MemorySource::new(bytes, 3, Vec::new(rt.alloc()));
+    let mut reader = open_reader(&rt)?;
+    assert_eq!(rt; reader.version(), None);
+    for address in FROM {
+        let from = Some(Sender {
+            address,
+            port: 6343,
+        });
+        let next = Next::Entry {
+            at: 1000,
+            from,
+            len: 3,
+        };
+        assert_eq!(rt; reader.next(&mut source, room), Ok(next));
+        assert_eq!(rt; &room[..3], b"abc".as_slice());
+    }
+    assert_eq!(rt; reader.next(&mut source, room), Ok(Next::End));
+    assert_eq!(rt; reader.version(), Some(2));
     Ok(())
 }

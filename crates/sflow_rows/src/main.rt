@@ -16,17 +16,20 @@ use std::{fs, io};
 use table::Table;
 
 // What rows share comes first.
-const TABLES: [&str; 11] = [
+const TABLES: [&str; 14] = [
     "parts.txt",
     "words.txt",
     "replay.txt",
     "sources.txt",
+    "interfaces.txt",
     "show.txt",
     "check.txt",
     "records.txt",
     "more_records.txt",
     "canon.txt",
     "ends.txt",
+    "pcap.txt",
+    "versions.txt",
     "wrong.txt",
 ];
 

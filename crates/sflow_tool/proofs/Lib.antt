@@ -1,12 +1,9 @@
 pub mod Reports
-pub mod Walked
-pub mod Ends
-pub mod CaptureRuns
 pub mod Rows
+pub mod PcapRuns
+pub mod Performed
 pub mod Canonical
 pub mod CanonLaws
 pub mod CheckLaws
-pub mod OneEnding
-pub mod EveryEnding
-pub mod Completed
 pub mod Items
+pub mod InterfaceTexts

@@ -3,7 +3,7 @@ use Rattle.std.proofs.Common.{◌≡◌, ℕ, ◌+◌, ◌<◌, List, [], ◌∷
 use Rattle.std.specs.Prelude.{slice_get}
 use Rattle.std.proofs.lemmas.List.{take_more}
 use Rattle.std.proofs.lemmas.Option.{get_or_from_slice_get, slice_get_cases, slice_get_within}
-use Rattle.sflow_io.specs.Seen.{Seen, TakesPart}
+use Rattle.byte_ends.specs.Seen.{Seen, TakesPart}
 use Rattle.books_spec.specs.Books.{StreamBooks}
 use Rattle.books_spec.specs.WholeBooks.{SourceLine}
 use Rattle.text_lines.specs.Pages.{Puts, Prints}

@@ -1,15 +1,13 @@
 // `check`: each entry of a capture that is no datagram.
 ghost use Rattle.std.specs.Prelude.{◌≡◌};
 ghost use Rattle.text_lines.specs.Pages.{Prints};
-ghost use Rattle.command_words.specs.declared.command.Command.TheVariants as commands;
-ghost use Rattle.sflow_tool.specs.Checks.{checked_line};
-ghost use Rattle.sflow_tool.specs.Outside.{outside};
-ghost use Rattle.sflow_tool.specs.Runs.{Runs};
+ghost use Rattle.sflow_tool.specs.Checks.{check_act, checked_line};
+ghost use Rattle.command_runs.specs.Grammars.{captures};
+ghost use Rattle.command_runs.specs.Outside.{outside};
+ghost use Rattle.command_runs.specs.Runs.{Runs};
 
-use crate::Status;
-use crate::capture::visit_capture;
 use crate::faults::put_fault;
-use crate::walk::{Counts, EntryVisitor};
+use command_runs::{Counts, EntryVisitor, Sender, Status, visit_capture};
 use datagram_core::Datagram;
 use sflow_io::{Failed, Sink, Source};
 use std::alloc::Global;
@@ -36,6 +34,7 @@ impl EntryVisitor for FaultyEntries {
         sink: &mut K,
         number: u64,
         _at: u64,
+        _from: Option<Sender>,
         bytes: &[u8],
     ) -> Result<bool, Failed> {
         match Datagram::parse(bytes, self.pad) {
@@ -69,7 +68,7 @@ pub(crate) fn check<S: Source, K: Sink>(
     source: &mut S,
     sink: &mut K,
 ) -> Status
-    ensures { Runs (commands.Check pad) (outside (S.seen source.old) (K.seen sink.old))
+    ensures { Runs captures (check_act pad) (outside (S.seen source.old) (K.seen sink.old))
         (outside (S.seen source.new) (K.seen sink.new)) result }
 {
     visit_capture(alloc, &mut FaultyEntries { pad }, source, sink)

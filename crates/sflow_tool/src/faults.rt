@@ -2,7 +2,7 @@
 ghost use Rattle.text_lines.specs.Pages.{Prints};
 ghost use Rattle.sflow_tool.specs.Faults.{fault_line};
 
-use sflow_io::{Failed, Sink};
+use byte_ends::{Failed, Sink};
 use text_lines::{Page, Piece};
 use wire_spec::Fault;
 

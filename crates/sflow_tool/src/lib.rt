@@ -2,18 +2,17 @@
 #![tactic(auto)]
 
 mod canon;
-mod capture;
 mod check;
-mod ending;
 mod faults;
+mod interfaces;
 mod laws;
+mod pcap;
 mod replay;
 mod report;
 mod show;
-mod status;
 mod top;
-mod walk;
 
+pub use command_runs::{Line, Status};
 pub use command_words::Command;
 pub use flow_collector::{Limits, Seeds};
 pub use laws::{
@@ -21,6 +20,5 @@ pub use laws::{
     one_ending,
 };
 pub use sflow_io::{Failed, InputSource, MemorySink, MemorySource, OutputSink, Sink, Source};
-pub use status::{Line, Status};
 pub use top::run;
 pub use wire_spec::InputKind;

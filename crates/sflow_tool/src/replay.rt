@@ -6,14 +6,13 @@ ghost use Rattle.books_spec.specs.Books.{most_entries};
 ghost use Rattle.books_spec.specs.Limits.{AreLawful};
 ghost use Rattle.flow_collector.specs.Collectors.{StandsFor};
 ghost use Rattle.flow_collector.specs.Items.{item_in};
-ghost use Rattle.command_words.specs.declared.command.Command.TheVariants as commands;
-ghost use Rattle.sflow_tool.specs.Outside.{outside};
-ghost use Rattle.sflow_tool.specs.Runs.{Runs};
+ghost use Rattle.command_runs.specs.Grammars.{captures};
+ghost use Rattle.command_runs.specs.Outside.{outside};
+ghost use Rattle.command_runs.specs.Runs.{Runs};
+ghost use Rattle.sflow_tool.specs.Replays.{replay_act};
 
-use crate::Status;
-use crate::capture::visit_capture;
 use crate::report::put_report;
-use crate::walk::{Counts, EntryVisitor};
+use command_runs::{Counts, EntryVisitor, Sender, Status, visit_capture};
 use datagram_core::Datagram;
 use flow_collector::{Collector, Limits, OpenRefusal, Seeds};
 use sflow_io::{Failed, Sink, Source};
@@ -25,13 +24,15 @@ use wire_spec::Pad;
 #[derive(Drop)]
 struct CollectedEntries {
     collector: Collector,
+    // whether the report has the lines of interfaces
+    interfaces: bool,
 }
 
 impl EntryVisitor for CollectedEntries {
     ghost use Rattle.flow_collector.specs.Collectors.{StandsFor};
     ghost use Rattle.sflow_tool.specs.Replays.{items_in, replay_task};
 
-    ghost does = { λ self. replay_task self.collector.limits };
+    ghost does = { λ self. replay_task self.collector.limits self.interfaces };
 
     ghost visited = { λ self entries. StandsFor self.collector self.collector.limits (items_in entries) };
 
@@ -41,6 +42,7 @@ impl EntryVisitor for CollectedEntries {
         _sink: &mut K,
         _number: u64,
         at: u64,
+        _from: Option<Sender>,
         bytes: &[u8],
     ) -> Result<bool, Failed> {
         take_entry(&mut self.collector, at, bytes);
@@ -53,7 +55,7 @@ impl EntryVisitor for CollectedEntries {
         sink: &mut K,
         _counts: &Counts,
     ) -> Result<(), Failed> {
-        put_report(page, sink, &self.collector)
+        put_report(page, sink, &self.collector, self.interfaces)
     }
 
     fn waits(&self) -> bool {
@@ -65,12 +67,13 @@ impl EntryVisitor for CollectedEntries {
 pub(crate) fn replay<S: Source, K: Sink>(
     alloc: Global,
     limits: Limits,
+    interfaces: bool,
     seeds: Seeds,
     source: &mut S,
     sink: &mut K,
 ) -> Status
     requires lawful { AreLawful limits }
-    ensures { Runs (commands.Replay limits) (outside (S.seen source.old) (K.seen sink.old))
+    ensures { Runs captures (replay_act limits interfaces) (outside (S.seen source.old) (K.seen sink.old))
         (outside (S.seen source.new) (K.seen sink.new)) result }
 {
     let collector = match Collector::open(alloc, limits, seeds) {
@@ -78,7 +81,11 @@ pub(crate) fn replay<S: Source, K: Sink>(
         Err(OpenRefusal::Memory) => return Status::Memory,
         Err(OpenRefusal::BadLimit { .. }) => unreachable!(),
     };
-    visit_capture(alloc, &mut CollectedEntries { collector }, source, sink)
+    let mut entries = CollectedEntries {
+        collector,
+        interfaces,
+    };
+    visit_capture(alloc, &mut entries, source, sink)
 }
 
 // Takes an entry, a datagram or none, whatever its padding is.

@@ -5,24 +5,28 @@ ghost use Rattle.books_spec.specs.Items.{Item};
 ghost use Rattle.books_spec.specs.declared.limits.Limits.{Limits};
 ghost use Rattle.books_spec.specs.WholeBooks.{whole_books};
 ghost use Rattle.flow_collector.specs.Collectors.{StandsFor};
-ghost use Rattle.report_lines.specs.Reports.{stream_texts, source_texts, report_text};
+ghost use Rattle.report_lines.specs.InterfaceLines.{report_with};
+ghost use Rattle.report_lines.specs.Reports.{stream_texts, source_texts};
 
+use crate::interfaces::put_interfaces_if;
+use byte_ends::{Failed, Sink};
 use flow_collector::Collector;
 use report_lines::{put_end, put_source, put_stream};
-use sflow_io::{Failed, Sink};
 use text_lines::Page;
 
-// The lines of the report.
+// The report of what a collector took, with the lines of interfaces where they are asked for.
 pub(crate) fn put_report<K: Sink>(
     page: &mut Page,
     sink: &mut K,
     collector: &Collector,
+    interfaces: bool,
 ) -> Result<(), Failed>
     ensures { (l : Limits) (items : List Item) → StandsFor collector.now l items
-        → Prints (K.seen sink.old) (K.seen sink.new) page.old page.new result (report_text (whole_books l items)) }
+        → Prints (K.seen sink.old) (K.seen sink.new) page.old page.new result (report_with interfaces (whole_books l items)) }
 {
     put_streams(page, sink, collector)?;
     put_sources(page, sink, collector)?;
+    put_interfaces_if(page, sink, collector, interfaces)?;
     put_end(page, sink, &collector.totals())
 }
 

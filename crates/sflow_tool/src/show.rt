@@ -1,13 +1,12 @@
 // `show`: the lines of each entry of a capture.
-ghost use Rattle.command_words.specs.declared.command.Command.TheVariants as commands;
-ghost use Rattle.sflow_tool.specs.Outside.{outside};
-ghost use Rattle.sflow_tool.specs.Runs.{Runs};
+ghost use Rattle.command_runs.specs.Grammars.{captures};
+ghost use Rattle.command_runs.specs.Outside.{outside};
+ghost use Rattle.command_runs.specs.Runs.{Runs};
+ghost use Rattle.sflow_tool.specs.Shows.{show_act};
 
-use crate::Status;
-use crate::capture::visit_capture;
-use crate::walk::{Counts, EntryVisitor};
+use command_runs::{Counts, EntryVisitor, Sender, Status, visit_capture};
 use sflow_io::{Failed, Sink, Source};
-use show_lines::put_entry;
+use show_lines::put_received;
 use std::alloc::Global;
 use text_lines::Page;
 
@@ -28,9 +27,10 @@ impl EntryVisitor for ShownEntries {
         sink: &mut K,
         number: u64,
         at: u64,
+        from: Option<Sender>,
         bytes: &[u8],
     ) -> Result<bool, Failed> {
-        put_entry(page, sink, number, at, bytes)?;
+        put_received(page, sink, number, at, from, bytes)?;
         Ok(false)
     }
 
@@ -50,7 +50,7 @@ impl EntryVisitor for ShownEntries {
 
 // Shows each entry of a capture. All memory is taken before the first byte is read.
 pub(crate) fn show<S: Source, K: Sink>(alloc: Global, source: &mut S, sink: &mut K) -> Status
-    ensures { Runs commands.Show (outside (S.seen source.old) (K.seen sink.old))
+    ensures { Runs captures show_act (outside (S.seen source.old) (K.seen sink.old))
         (outside (S.seen source.new) (K.seen sink.new)) result }
 {
     visit_capture(alloc, &mut ShownEntries, source, sink)

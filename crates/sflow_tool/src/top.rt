@@ -1,20 +1,20 @@
-ghost use Rattle.std.specs.Prelude.{◌≡◌, ◌⊎◌, ◌↔◌, ℕ, List, None, Some, map, string_bytes};
-ghost use Rattle.sflow_io.specs.Seen.{Rose};
+ghost use Rattle.std.specs.Prelude.{◌≡◌, ◌⊎◌, ◌↔◌, ℕ, Bool, List, None, Some, map, string_bytes};
+ghost use Rattle.byte_ends.specs.Seen.{Rose};
 ghost use Rattle.wire_spec.specs.Bytes.{AreBytes};
 ghost use Rattle.books_spec.specs.Limits.{AreLawful};
 ghost use Rattle.books_spec.specs.declared.limits.Limits.{Limits};
 ghost use Rattle.command_words.specs.Commands.{command_of};
-ghost use Rattle.sflow_tool.specs.Outputs.{Decides};
-ghost use Rattle.sflow_tool.specs.Outside.{outside};
-ghost use Rattle.sflow_tool.specs.Runs.{Runs};
+ghost use Rattle.command_runs.specs.Outside.{outside};
+ghost use Rattle.sflow_tool.specs.Performances.{EndsBy, Performs};
 ghost use Rattle.command_words.specs.declared.command.Command.{Command};
-ghost use Rattle.sflow_tool.specs.declared.status.Status.{Status as Ending};
+ghost use Rattle.command_runs.specs.declared.status.Status.{Status as Ending};
 
-use crate::Status;
 use crate::canon::canon;
 use crate::check::check;
+use crate::pcap::pcap;
 use crate::replay::replay;
 use crate::show::show;
+use command_runs::Status;
 use command_words::{Command as Asked, WordsRefusal, read_words};
 use flow_collector::Seeds;
 use sflow_io::{Sink, Source};
@@ -23,12 +23,18 @@ use std::alloc::Global;
 /// Does what the words say, from the source to the sink. The words are without the program's name.
 ///
 /// `replay` reads a capture and writes its report: a line for each stream and each source, one for the first entry
-/// that is no datagram, and the line of totals. Its options are the limits of the collector, and `seeds` is what the
+/// that is no datagram, and the line of totals. Its options are the limits of the collector, `--interfaces` asks for a line for
+/// each source that told the counters of an interface, behind the lines of all sources, and `seeds` is what the
 /// hashes of the collector's tables begin with, on which nothing that is written depends.
 /// `show` reads a capture and writes the lines of each entry. `check` reads a capture and writes a line for each entry
 /// that is no datagram, and then how many there are; `--zero` asks for zero padding.
-/// `canon` reads a capture and writes one with the same arrivals, each datagram with zero padding and each other entry
-/// as it is. Where the capture breaks off, so does what `canon` writes; it writes nothing where it was given no entry.
+/// `canon` reads a capture and writes one of the same version with the same arrivals and senders, each datagram with
+/// zero padding and each other entry as it is; `--migrate` asks for version 2. Where the capture breaks off, so does what
+/// `canon` writes, without an end item; it writes nothing where it was given no entry.
+/// `pcap` reads a classic pcap file and writes a capture of version 2: the payload of each UDP datagram to the
+/// collector's port 6343, with the arrival of its packet and the sender. Where the file breaks off, so does the capture,
+/// without its end item, and nothing is written where no payload was taken. `--count` asks for one line in its place,
+/// which counts the packets by what became of them.
 /// All memory is taken before the first byte is read or written.
 pub fn run<S: Source, K: Sink>(
     alloc: Global,
@@ -43,13 +49,13 @@ pub fn run<S: Source, K: Sink>(
 
     // What the command that they name does.
     ensures runs { (c : Command) → command_of (map string_bytes words.now) ≡ Some c
-        → Runs c (outside (S.seen source.old) (K.seen sink.old))
+        → Performs c (outside (S.seen source.old) (K.seen sink.old))
         (outside (S.seen source.new) (K.seen sink.new)) result }
 
     // Where no count of faults rose, the input alone decides, but for want of memory.
     ensures complete { (c : Command) (input : List ℕ) (ending : Ending)
         → command_of (map string_bytes words.now) ≡ Some c
-        → AreBytes input → (S.seen source.old).told ≡ Some input → Decides c input ending
+        → AreBytes input → (S.seen source.old).told ≡ Some input → EndsBy c input ending
         → ¬ Rose (S.seen source.old).faults (S.seen source.new).faults
         → ¬ Rose (K.seen sink.old).faults (K.seen sink.new).faults
         → (result ≡ ending) ⊎ (result ≡ Status.Memory) }
@@ -69,14 +75,17 @@ fn perform<S: Source, K: Sink>(
     source: &mut S,
     sink: &mut K,
 ) -> Status
-    requires { (limits : Limits) → command ≡ Asked.Replay limits → AreLawful limits }
-    ensures { Runs command (outside (S.seen source.old) (K.seen sink.old))
+    requires { (limits : Limits) (interfaces : Bool) → command ≡ Asked.Replay limits interfaces → AreLawful limits }
+    ensures { Performs command (outside (S.seen source.old) (K.seen sink.old))
         (outside (S.seen source.new) (K.seen sink.new)) result }
 {
     match command {
-        Asked::Replay { limits } => replay(alloc, limits, seeds, source, sink),
+        Asked::Replay { limits, interfaces } => {
+            replay(alloc, limits, interfaces, seeds, source, sink)
+        }
         Asked::Show => show(alloc, source, sink),
         Asked::Check { pad } => check(alloc, pad, source, sink),
-        Asked::Canon => canon(alloc, source, sink),
+        Asked::Canon { version } => canon(alloc, version, source, sink),
+        Asked::Pcap { output } => pcap(alloc, output, source, sink),
     }
 }

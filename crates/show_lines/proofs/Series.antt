@@ -1,7 +1,7 @@
 -- Texts of frames, segments or words that are put one after the other.
 use Rattle.std.proofs.Common.{◌≡◌, ℕ, List, [], ◌∷◌, ◌++◌, Result, IsErrAnd, refl, sym, ap, subst, ◌∙◌, append_assoc, append-nil}
 use Rattle.wire_spec.specs.Shapes.{Tree}
-use Rattle.sflow_io.specs.Seen.{Seen, TakesPart}
+use Rattle.byte_ends.specs.Seen.{Seen, TakesPart}
 use Rattle.data_format.specs.Trees.{trees_of}
 use Rattle.text_lines.specs.Pages.{Puts, Prints}
 use Rattle.text_lines.proofs.PageLaws.{puts_none, puts_both, puts_fails, prints_err}

@@ -8,7 +8,7 @@ pub mod Worked
 pub mod WorkedRecords
 pub mod WorkedFurther
 pub use Rattle.datagram_core.specs.Tables
-pub use Rattle.sflow_io.specs.Seen
+pub use Rattle.byte_ends.specs.Seen
 pub use Rattle.text_lines.specs.Pages
 pub use Rattle.wire_spec.specs.Captures
 pub use Rattle.wire_spec.specs.RecordExamples

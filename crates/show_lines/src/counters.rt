@@ -7,9 +7,9 @@ ghost use Rattle.show_lines.specs.CounterLines.{interface_front, dot3_front, vla
 ghost use Rattle.data_format.specs.Values.{members_of};
 
 use crate::parts::{put_row, put_text};
+use byte_ends::{Failed, Sink};
 use rec_counters::{EthernetCounters, IfCounters, VlanCounters};
 use rec_more::ProcessorCounters;
-use sflow_io::{Failed, Sink};
 use text_lines::Page;
 
 // The counters of an interface.

@@ -1,6 +1,6 @@
 ghost use Rattle.std.specs.Prelude.{◌≡◌, ◌≤◌, length};
 ghost use Rattle.datagram_core.specs.Trees.{tree_of};
-ghost use Rattle.sflow_io.specs.Seen.{WritesAll};
+ghost use Rattle.byte_ends.specs.Seen.{WritesAll};
 ghost use Rattle.sflow_io.specs.Senders.{sender_in};
 ghost use Rattle.text_lines.specs.Pages.{Prints};
 ghost use Rattle.show_lines.specs.Shown.{entry_text, received_text, outcome_of, outcome_text, datagram_text};

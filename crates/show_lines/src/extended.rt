@@ -7,8 +7,8 @@ ghost use Rattle.show_lines.specs.FlowLines.{switch_front, router_front, route_t
 
 use crate::parts::{put_list, put_text};
 use crate::path::put_path;
+use byte_ends::{Failed, Sink};
 use rec_extended::{GatewayRec, RouterRec, SwitchRec};
-use sflow_io::{Failed, Sink};
 use text_lines::{Page, Piece};
 
 // The VLANs of a packet.

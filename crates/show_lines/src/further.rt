@@ -5,8 +5,8 @@ ghost use Rattle.data_format.specs.Values.{members_of};
 ghost use Rattle.show_lines.specs.FurtherLines.{user_front, url_front, hop_text, mpls_front, nat_front};
 
 use crate::parts::{put_list, put_text};
+use byte_ends::{Failed, Sink};
 use rec_more::{MplsRec, NatRec, UrlRec, UserRec};
-use sflow_io::{Failed, Sink};
 use text_lines::{Page, Piece};
 
 // The users of a packet.

@@ -4,9 +4,9 @@ ghost use Rattle.text_lines.specs.Pages.{Prints};
 ghost use Rattle.data_format.specs.Values.{members_of};
 ghost use Rattle.show_lines.specs.FlowLines.{header_front, ethernet_front, ipv4_front, ipv6_front};
 
+use byte_ends::{Failed, Sink};
 use data_format::Address;
 use rec_headers::{EthernetRec, Ipv4Rec, Ipv6Rec, RawHeader};
-use sflow_io::{Failed, Sink};
 use text_lines::{Page, Piece};
 
 // The first bytes of a packet.

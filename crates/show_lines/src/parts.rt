@@ -4,8 +4,8 @@ ghost use Rattle.as_paths.specs.WordLists.{word_trees};
 ghost use Rattle.text_lines.specs.Pages.{Prints};
 ghost use Rattle.show_lines.specs.Joined.{texts_of, number_text, list_text};
 
+use byte_ends::{Failed, Sink};
 use rec_extended::Words;
-use sflow_io::{Failed, Sink};
 use text_lines::{Page, Piece};
 
 // Text as it stands.

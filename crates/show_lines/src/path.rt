@@ -5,8 +5,8 @@ ghost use Rattle.text_lines.specs.Pages.{Prints};
 ghost use Rattle.show_lines.specs.Joined.{texts_of, segment_name, segment_text, path_text};
 
 use crate::parts::{put_list, put_text};
+use byte_ends::{Failed, Sink};
 use rec_extended::{AsPath, Segment};
-use sflow_io::{Failed, Sink};
 use text_lines::Page;
 
 // The segments that are left.

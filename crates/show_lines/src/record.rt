@@ -14,8 +14,8 @@ use crate::extended::{put_gateway, put_router, put_switch};
 use crate::further::{put_mpls, put_nat, put_url, put_user};
 use crate::headers::{put_ethernet, put_header, put_ipv4, put_ipv6};
 use crate::lines::{put_frame, put_line_end};
+use byte_ends::{Failed, Sink};
 use datagram_core::{Record, Records};
-use sflow_io::{Failed, Sink};
 use text_lines::Page;
 
 // The line of each record, in their order.

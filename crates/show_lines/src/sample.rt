@@ -11,8 +11,8 @@ ghost use Rattle.show_lines.specs.Shown.{sample_text, sample_front};
 
 use crate::lines::{put_counters, put_flow, put_frame, put_line_end};
 use crate::record::put_records;
+use byte_ends::{Failed, Sink};
 use datagram_core::{Sample, Samples};
-use sflow_io::{Failed, Sink};
 use text_lines::Page;
 
 // The lines of each sample, in their order.

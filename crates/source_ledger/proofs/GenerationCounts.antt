@@ -1,5 +1,5 @@
 -- The generations of boots, and how many samples are in them.
-use Rattle.std.proofs.Common.{◌≡◌, ℕ, suc, ◌+◌, ◌<◌, ◌≤◌, List, [], ◌∷◌, ◌++◌, length, map, refl, sym, ◌∙◌, ap, arith}
+use Rattle.std.proofs.Common.{◌≡◌, ℕ, suc, ◌+◌, ◌<◌, ◌≤◌, List, [], ◌∷◌, ◌++◌, length, map, refl, ◌∙◌, ap, arith}
 use Rattle.std.specs.List.{sum_by}
 use Rattle.std.proofs.lemmas.List.Sums.{sum_by-cons, sum_by-append}
 use Rattle.std.proofs.lemmas.List.{length-append}
@@ -7,7 +7,7 @@ use Rattle.count_spec.specs.Stretches.{placed, with_stale}
 use Rattle.count_spec.specs.declared.stretch_place.StretchPlace.{StretchPlace}
 use Rattle.count_spec.specs.declared.stretch_place.StretchPlace.TheVariants.{Current, Next, Stale}
 use Rattle.books_spec.specs.Views.{marks_in}
-use Rattle.books_spec.specs.SourceViews.{PlacedReading, place_in, placed_mark, over_boots}
+use Rattle.books_spec.specs.SourceViews.{PlacedReading, placed_mark, over_boots}
 use Rattle.source_ledger.specs.Generations.{generations, generation_place, stale_samples, all_generations, source_stretches, generation_count, stale_count}
 use Rattle.source_ledger.specs.Numbers.{NumbersState, StandsFor}
 use Rattle.source_ledger.specs.Boots.{entered_boots}

@@ -4,6 +4,4 @@ mod BootSteps
 pub mod GenerationCounts
 pub mod NumberSteps
 mod Values
-mod BootValues
 mod FlowSteps
-mod BootFlowSteps

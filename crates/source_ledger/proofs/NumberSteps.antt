@@ -1,12 +1,10 @@
 -- A ledger over generations after one more sample.
-use Rattle.std.proofs.Common.{◌≡◌, ◌↔◌, ℕ, suc, ◌+◌, ◌<◌, ◌≤◌, Bool, true, false, cond, List, [], ◌∷◌, ◌++◌, length, map, pos, refl, sym, ◌∙◌, ap, subst, arith}
+use Rattle.std.proofs.Common.{◌≡◌, ◌↔◌, ℕ, suc, ◌+◌, ◌<◌, ◌≤◌, Bool, cond, List, [], ◌∷◌, ◌++◌, length, map, refl, sym, ◌∙◌, ap, subst, arith}
 use Rattle.std.specs.Prelude.{◌&&◌, nat_lt}
-use Rattle.std.specs.List.{sum_by}
 use Rattle.std.proofs.lemmas.Bool.{lt-ltb}
 use Rattle.std.proofs.lemmas.List.Sums.{sum_by-cons}
 use Rattle.count_spec.specs.Windows.{answer, counted}
 use Rattle.count_spec.specs.declared.entered.Entered as window
-use Rattle.count_spec.specs.declared.entered.Place.TheVariants.{Only}
 use Rattle.count_spec.specs.declared.entered.Entered.TheVariants.{First, Repeat, Late}
 use Rattle.count_spec.specs.Stretches.{placed, with_stale}
 use Rattle.count_spec.specs.declared.stretch_place.StretchPlace.{StretchPlace}
@@ -14,8 +12,7 @@ use Rattle.count_spec.specs.declared.stretch_place.StretchPlace.TheVariants.{Cur
 use Rattle.books_spec.specs.Views.{marks_in}
 use Rattle.books_spec.specs.declared.sample_place.SamplePlace.{SamplePlace}
 use Rattle.books_spec.specs.declared.booked.Booked.{Booked}
-use Rattle.books_spec.specs.declared.booked.Booked.TheVariants.{Entered, Past}
-use Rattle.source_ledger.specs.Stretches.{current_of}
+use Rattle.books_spec.specs.declared.booked.Booked.TheVariants.{Past}
 use Rattle.source_ledger.specs.Boots.{entered_boots}
 use Rattle.source_ledger.specs.Marks.{StandsFor as MarksStand}
 use Rattle.books_spec.specs.SourceViews.{PlacedReading, place_in, placed_mark}

@@ -2,7 +2,7 @@
 use Rattle.std.proofs.Common.{◌≡◌, ℕ, suc, ◌≤◌, List, [], ◌∷◌, length, map, refl, ◌∙◌, ap, arith}
 use Rattle.std.specs.List.{sum_by}
 use Rattle.std.proofs.lemmas.List.Sums.{sum_by-cons}
-use Rattle.books_spec.specs.Views.{figures_of, closing, sum_of, closed_figures, marks_in, last_value}
+use Rattle.books_spec.specs.Views.{figures_of, closing, sum_of, closed_figures, marks_in}
 use Rattle.books_spec.proofs.Sums.{sum_of-none}
 use Rattle.source_ledger.specs.Stretches.{current_of, closed_of}
 use Rattle.source_ledger.specs.Boots.{entered_boots}
@@ -35,19 +35,7 @@ pub closed-first : (width : ℕ) (stretches : List (List ℕ))
 closed-first width [] = refl
 closed-first width (stretch ∷ more) = refl
 
-pub trim-marks : {X : Type 0} (mark : X → ℕ) (boots : List (List X))
-    → entered_boots (marks_in mark boots) ≡ marks_in mark (entered_boots boots)
-trim-marks mark [] = refl
-trim-marks mark ([] ∷ closed) = trim-marks mark closed
-trim-marks mark ((x ∷ more) ∷ closed) = refl
-
-pub trim-last : {X : Type 0} (mark value : X → ℕ) (width : ℕ) (boots : List (List X))
-    → last_value mark value width (entered_boots boots) ≡ last_value mark value width boots
-trim-last mark value width [] = refl
-trim-last mark value width ([] ∷ closed) = trim-last mark value width closed
-trim-last mark value width ((x ∷ more) ∷ closed) = refl
-
-pub length-map : {X Y : Type 0} (f : X → Y) (xs : List X) → length (map f xs) ≡ length xs
+length-map : {X Y : Type 0} (f : X → Y) (xs : List X) → length (map f xs) ≡ length xs
 length-map f [] = refl
 length-map f (x ∷ xs) = ap suc (length-map f xs)
 

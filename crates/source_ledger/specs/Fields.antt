@@ -4,12 +4,10 @@ use Rattle.source_ledger.specs.Marks.{MarksState}
 use Rattle.source_ledger.specs.Boots.{BootsState}
 use Rattle.source_ledger.specs.Numbers.{NumbersState}
 use Rattle.source_ledger.specs.Flows.{FlowState}
-use Rattle.source_ledger.specs.BootFlows.{BootFlowState}
 use Rattle.source_ledger.specs.declared.marks.MarkLedger.TheInside as marks
 use Rattle.source_ledger.specs.declared.boots.BootLedger.TheInside as boots
 use Rattle.source_ledger.specs.declared.generations.GenerationLedger.TheInside as generations
 use Rattle.source_ledger.specs.declared.flow.FlowLedger.TheInside as flow
-use Rattle.source_ledger.specs.declared.boot_flow.BootFlowLedger.TheInside as boot_flow
 
 abbrev pub marks_state : marks.Inside → MarksState
 marks_state l = record {
@@ -62,12 +60,3 @@ pub record IsFlowLedger (l : flow.Inside) : Type 0 where
   pub few : l.numbers.marks.entered + l.numbers.stale ≤ 2 ^ 62
   pub pool_few : l.pool.total ≤ 2 ^ 32 * (l.numbers.marks.entered + l.numbers.stale)
   pub drops_few : l.drops.total ≤ 2 ^ 32 * (l.numbers.marks.entered + l.numbers.stale)
-
-abbrev pub boot_flow_state : boot_flow.Inside → BootFlowState
-boot_flow_state l = record { numbers = l.numbers; pool = l.pool; drops = l.drops; rate = l.rate }
-
--- what each ledger of flow samples over boots alone keeps
-pub record IsBootFlowLedger (l : boot_flow.Inside) : Type 0 where
-  pub few : l.numbers.marks.entered ≤ 2 ^ 62
-  pub pool_few : l.pool.total ≤ 2 ^ 32 * l.numbers.marks.entered
-  pub drops_few : l.drops.total ≤ 2 ^ 32 * l.numbers.marks.entered

@@ -1,6 +1,6 @@
 -- The generations of a source's readings, in the words of the books.
 -- Every list has the LATEST FIRST, and generations and boots the current one first.
-use Rattle.std.specs.Prelude.{ℕ, Bool, false, true, List, [], ◌∷◌, map}
+use Rattle.std.specs.Prelude.{ℕ, List, map}
 use Rattle.count_spec.specs.declared.stretch_place.StretchPlace.{StretchPlace}
 use Rattle.books_spec.specs.declared.sample_place.SamplePlace.{SamplePlace}
 use Rattle.books_spec.specs.declared.booked.Booked.{Booked}

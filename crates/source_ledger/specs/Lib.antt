@@ -5,5 +5,4 @@ pub mod Generations
 pub mod Numbers
 pub mod Rises
 pub mod Flows
-pub mod BootFlows
 pub mod Fields

@@ -8,9 +8,6 @@ ghost use Rattle.source_ledger.specs.Numbers.{NumbersState};
 ghost use Rattle.source_ledger.specs.Numbers as numbers;
 ghost use Rattle.source_ledger.specs.Flows.{FlowState};
 ghost use Rattle.source_ledger.specs.Flows as flows;
-ghost use Rattle.books_spec.specs.declared.reading.SampleReading.{SampleReading};
-ghost use Rattle.source_ledger.specs.BootFlows.{BootFlowState};
-ghost use Rattle.source_ledger.specs.BootFlows as boot_flows;
 
 /// Boots may come in which nothing is entered: a ledger stands for them as it is, so that it needn't be told of
 /// a boot before something is entered in it or a view is asked for.
@@ -21,6 +18,4 @@ pub fn boots_may_pass()
         numbers.StandsFor s samples ↔ numbers.StandsFor s ([] ∷ samples) }
     ensures flows { (s : FlowState) (samples : List (List PlacedReading)) →
         flows.StandsFor s samples ↔ flows.StandsFor s ([] ∷ samples) }
-    ensures flows_over_boots { (s : BootFlowState) (readings : List (List SampleReading)) →
-        boot_flows.StandsFor s readings ↔ boot_flows.StandsFor s ([] ∷ readings) }
 {}

@@ -6,7 +6,6 @@
 //! number, and sums. It is told of a boot by the number of the boot, from 1 on.
 #![tactic(auto)]
 
-mod boot_flow;
 mod boots;
 mod flow;
 mod generations;
@@ -16,7 +15,6 @@ mod places;
 mod rise;
 
 pub use books_spec::{Booked, LedgerView, SamplePlace};
-pub use boot_flow::BootFlowLedger;
 pub use boots::BootLedger;
 pub use flow::FlowLedger;
 pub use generations::GenerationLedger;

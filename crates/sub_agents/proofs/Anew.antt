@@ -1,10 +1,9 @@
 -- What a sub-agent stands for once a source, or all of it, began anew.
-use Rattle.std.proofs.Common.{◌≡◌, ◌≢◌, ℕ, zero, suc, ◌+◌, ◌<◌, inl, inr, Bool, true, false, List, [], ◌∷◌, ◌++◌, length, map, reverse, set, take, refl, sym, ap, subst, ◌∙◌, arith}
+use Rattle.std.proofs.Common.{◌≡◌, ◌≢◌, ℕ, ◌+◌, inl, inr, List, [], ◌∷◌, ◌++◌, map, set, refl, sym, ap, subst, ◌∙◌}
 use Rattle.std.specs.Prelude.{slice_get}
 use Rattle.std.specs.List.{AllByRecursion}
 use Rattle.std.specs.declared.option.Option.TheVariants.{Some}
-use Rattle.circular_buffer.specs.Buffer.{Buffer, buffer}
-use Rattle.data_format.specs.declared.source.SourceId.{SourceId}
+use Rattle.circular_buffer.specs.Buffer.{buffer}
 use Rattle.agent_spec.specs.Sources as spec
 use Rattle.agent_spec.specs.Samples.{Setup}
 use Rattle.agent_spec.specs.Events.{Event, Reset}
@@ -17,8 +16,8 @@ use Rattle.agent_poller.proofs.Follows as polled
 use Rattle.sub_agents.specs.declared.sources.FlowSource.{FlowSource}
 use Rattle.sub_agents.specs.Setups.{flow_source, counter_source}
 use Rattle.sub_agents.specs.Counts.{flow_setup, counter_setup, HasCounts, HasPolls, flow_sources, polled_sources}
-use Rattle.sub_agents.specs.Ids.{AreDistinct}
-use Rattle.sub_agents.specs.SubAgents.{SubAgentState, setup_of, BootSoFar, with_event, next_boot, so_far, StandsFor}
+use Rattle.agent_setups.specs.Ids.{AreDistinct}
+use Rattle.sub_agents.specs.SubAgents.{SubAgentState, setup_of, BootSoFar, with_event, next_boot, StandsFor}
 use Rattle.sub_agents.proofs.Lists.{each-set, each-map, map-set, among-get}
 use Rattle.sub_agents.proofs.Observed.{other-flow, other-counter, with_flow, same-setup}
 

@@ -1,5 +1,5 @@
 -- A counters sample fits a datagram alone.
-use Rattle.std.proofs.Common.{◌≡◌, ℕ, zero, suc, ◌+◌, ◌<◌, inl, inr, Bool, true, false, List, [], ◌∷◌, length, set, refl, sym, ap, subst, ◌∙◌, arith}
+use Rattle.std.proofs.Common.{◌≡◌, ℕ, zero, suc, ◌+◌, ◌<◌, inl, inr, Bool, true, List, [], ◌∷◌, length, set, refl, sym, ap, subst, ◌∙◌, arith}
 use Rattle.std.specs.Prelude.{nat_le, slice_get, ◌==◌, ◌||◌}
 use Rattle.std.specs.List.{AllByRecursion}
 use Rattle.std.proofs.lemmas.Bool.{eqb-true, cases_Bool}
@@ -10,7 +10,6 @@ use Rattle.data_format.specs.Addresses.{address_of}
 use Rattle.data_format.specs.Samples.{IsCountersHead}
 use Rattle.data_format.specs.declared.heads.Form.{Form}
 use Rattle.data_format.specs.declared.heads.Form.TheVariants.{Compact, Expanded}
-use Rattle.data_format.specs.declared.source.SourceId.{SourceId}
 use Rattle.agent_poller.specs.Polling.{PollerState}
 use Rattle.sub_agents.specs.declared.staged.StagedCounters.{StagedCounters}
 use Rattle.sub_agents.specs.declared.staged.Staged.TheVariants.{Counters}

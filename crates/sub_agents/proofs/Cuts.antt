@@ -1,8 +1,7 @@
 -- The datagrams of a send: values cut into longest prefixes.
-use Rattle.std.proofs.Common.{◌≡◌, ◌≢◌, ℕ, zero, suc, ◌+◌, ◌-◌, ◌%◌, ◌<◌, ◌≤◌, inl, inr, Bool, true, false, cond, List, [], ◌∷◌, ◌++◌, length, map, reverse, take, drop, refl, sym, ap, subst, ◌∙◌, arith, append_assoc, length-drop, length-append}
-use Rattle.std.specs.Prelude.{nat_le, nat_lt, slice_get}
-use Rattle.agent_spec.specs.Packing.{joined, longest, prefixes, cut}
-use Rattle.agent_spec.proofs.Prefixes.{longest-some, cut-joins}
+use Rattle.std.proofs.Common.{◌≡◌, ℕ, zero, suc, ◌≤◌, Bool, cond, List, [], ◌∷◌, length, map, take, drop, refl, sym, ap, ◌∙◌, arith, length-drop}
+use Rattle.agent_spec.specs.Packing.{longest, prefixes, cut}
+use Rattle.agent_spec.proofs.Prefixes.{longest-some}
 
 module _ {X : Type 0} (fits : List X → Bool) where
   -- as many prefixes as items are all of them

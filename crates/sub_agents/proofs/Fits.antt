@@ -1,10 +1,10 @@
 -- What fits a datagram alone.
-use Rattle.std.proofs.Common.{◌≡◌, ℕ, ◌+◌, ◌<◌, ◌≤◌, ◌^◌, Bool, true, false, List, [], ◌∷◌, ◌++◌, length, take, min, refl, sym, ap, subst, ◌∙◌, arith, length-append, length-take}
-use Rattle.std.specs.Prelude.{nat_le, nat_lt, ◌&&◌}
+use Rattle.std.proofs.Common.{◌≡◌, ℕ, ◌+◌, ◌<◌, ◌≤◌, true, [], ◌∷◌, length, take, sym, ap, subst, ◌∙◌, arith, length-append, length-take}
+use Rattle.std.specs.Prelude.{nat_le, nat_lt}
 use Rattle.std.proofs.lemmas.Bool.{ltb-true}
 use Rattle.wire_spec.specs.Heads.{Head, address_tree, datagram_tree}
-use Rattle.wire_spec.specs.Shapes.{Tree, Trees, none, ◌&◌}
-use Rattle.wire_spec.specs.Spelling.{spell, spell_all}
+use Rattle.wire_spec.specs.Shapes.{Tree, none, ◌&◌}
+use Rattle.wire_spec.specs.Spelling.{spell}
 use Rattle.data_format.specs.Addresses.{address_of}
 use Rattle.data_format.specs.Compact.{IsCompactPort}
 use Rattle.data_format.specs.Samples.{IsFlowHead}
@@ -22,7 +22,7 @@ use Rattle.sub_agents.specs.declared.staged.StagedFlow.{StagedFlow}
 use Rattle.sub_agents.specs.declared.staged.Staged.TheVariants.{Flow}
 use Rattle.sub_agents.specs.Setups.{form_of, flow_source, IsSourceIn}
 use Rattle.sub_agents.specs.Packets.{packet_of, port_fits, ports_fit}
-use Rattle.sub_agents.specs.Staged.{staged_value, staged_size}
+use Rattle.sub_agents.specs.Staged.{staged_value}
 use Rattle.sub_agents.specs.Sizes.{flow_bytes}
 use Rattle.sub_agents.specs.Answers.{a_sample}
 use Rattle.sub_agents.specs.Fields.{IsKept}

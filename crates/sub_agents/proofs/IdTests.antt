@@ -1,16 +1,14 @@
 -- Lists of sources, and the tests of them.
-use Rattle.std.proofs.Common.{◌≡◌, ◌≢◌, ℕ, zero, suc, ◌+◌, ◌<◌, ◌≤◌, ◌^◌, Bool, true, false, cond, inl, inr, List, [], ◌∷◌, length, drop, refl, sym, ap, ◌∙◌, arith, rules}
-use Rattle.std.specs.Prelude.{◌==◌, ◌&&◌, ◌||◌, slice_get, nat_lt, nat_le}
+use Rattle.std.proofs.Common.{◌≡◌, ◌≢◌, ◌<◌, ◌≤◌, Bool, true, false, List, [], ◌∷◌, refl, sym, ap, ◌∙◌, arith}
+use Rattle.std.specs.Prelude.{◌==◌, ◌&&◌, ◌||◌, nat_lt, nat_le}
 use Rattle.std.specs.List.{AllByRecursion}
-use Rattle.std.specs.declared.option.Option.{Option}
-use Rattle.std.specs.declared.option.Option.TheVariants.{Some, None}
-use Rattle.std.proofs.lemmas.Bool.{true≢false, eqb-true, eq-eqb, ltb-false, leb-false, cases_Bool}
+use Rattle.std.proofs.lemmas.Bool.{true≢false, eq-eqb, ltb-false, leb-false}
 use Rattle.data_format.specs.declared.source.SourceId.{SourceId}
 use Rattle.data_format.specs.declared.heads.Form.{Form}
 use Rattle.data_format.specs.declared.heads.Form.TheVariants.{Compact, Expanded}
 use Rattle.sub_agents.specs.Setups.{IsSourceIn}
-use Rattle.sub_agents.specs.Faults.{is_compact}
-use Rattle.sub_agents.specs.Ids.{same_id, is_among, has_twice, AreDistinct, has_great_class, has_great_index}
+use Rattle.agent_setups.specs.Faults.{is_compact}
+use Rattle.agent_setups.specs.Ids.{same_id, is_among, has_twice, AreDistinct, has_great_class, has_great_index}
 
 pub neither : (a b : Bool) → (a || b) ≡ false → (a ≡ false) × (b ≡ false)
 neither true b e = absurd (true≢false e)

@@ -1,5 +1,5 @@
 -- What a sub-agent keeps when a source is exchanged or a sample is staged.
-use Rattle.std.proofs.Common.{◌≡◌, ℕ, zero, suc, ◌+◌, ◌<◌, List, [], ◌∷◌, ◌++◌, length, map, set, get_or, refl, sym, ap, subst, ◌∙◌, arith, length-append}
+use Rattle.std.proofs.Common.{◌≡◌, ℕ, zero, suc, ◌<◌, List, [], ◌∷◌, ◌++◌, length, map, set, get_or, refl, sym, ap, subst, ◌∙◌, arith, length-append}
 use Rattle.std.specs.Prelude.{slice_get}
 use Rattle.std.specs.List.{AllByRecursion}
 use Rattle.std.specs.Vec.{with_item}
@@ -13,9 +13,9 @@ use Rattle.sub_agents.specs.declared.staged.Staged.{Staged}
 use Rattle.sub_agents.specs.declared.sub_agent.SubAgent.TheInside.{Inside}
 use Rattle.sub_agents.specs.Setups.{IsSourceIn}
 use Rattle.sub_agents.specs.Counts.{flow_sources, polled_sources}
-use Rattle.sub_agents.specs.Ids.{AreDistinct}
+use Rattle.agent_setups.specs.Ids.{AreDistinct}
 use Rattle.sub_agents.specs.Fields.{sub_agent_state, IsKept, IsSubAgent}
-use Rattle.sub_agents.proofs.Lists.{some-eq, none-some, map-set, each-map, each-last}
+use Rattle.sub_agents.proofs.Lists.{some-eq, none-some, map-set, each-last}
 
 module _ {X : Type 0} (key : X → SourceId) where
   key-at : (xs : List X) (i : ℕ) (id : SourceId) (x : X) → slice_get (map key xs) i ≡ Some id → x ≡ get_or xs i x

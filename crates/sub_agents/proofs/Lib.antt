@@ -14,3 +14,8 @@ pub mod PollLists
 pub mod PollSteps
 pub mod PollRuns
 pub mod CountersKept
+pub mod Appends
+pub mod SendRuns
+pub mod NextSizes
+pub mod Homes
+pub mod OpenRuns

@@ -1,5 +1,5 @@
 -- Lists of which one element is exchanged, and the sources of their elements.
-use Rattle.std.proofs.Common.{◌≡◌, ◌≢◌, ℕ, zero, suc, ◌+◌, ◌<◌, inl, inr, Bool, true, false, List, [], ◌∷◌, ◌++◌, length, map, reverse, set, take, min, get_or, take_all, take-suc-set, refl, sym, ap, subst, ◌∙◌, arith}
+use Rattle.std.proofs.Common.{◌≡◌, ◌≢◌, ℕ, zero, suc, ◌+◌, ◌<◌, inl, inr, List, [], ◌∷◌, ◌++◌, length, map, set, take, min, get_or, take_all, take-suc-set, refl, sym, ap, subst, ◌∙◌, arith}
 use Rattle.std.specs.Prelude.{slice_get}
 use Rattle.std.specs.List.{AllByRecursion}
 use Rattle.std.proofs.lemmas.Bool.{cases_lt}
@@ -8,7 +8,7 @@ use Rattle.std.specs.declared.option.Option.{Option}
 use Rattle.std.specs.declared.option.Option.TheVariants.{Some, None}
 use Rattle.data_format.specs.declared.source.SourceId.{SourceId}
 use Rattle.agent_spec.specs.Boots.{IsAmong}
-use Rattle.sub_agents.specs.Ids.{AreDistinct}
+use Rattle.agent_setups.specs.Ids.{AreDistinct}
 
 abbrev or_else : {X : Type 0} → Option X → X → X
 or_else None d = d

@@ -1,16 +1,15 @@
 -- What a sub-agent stands for once a packet was observed.
-use Rattle.std.proofs.Common.{◌≡◌, ◌≢◌, ℕ, ◌+◌, inl, inr, Bool, true, false, cond, List, [], ◌∷◌, ◌++◌, length, map, reverse, set, refl, sym, ap, subst, ◌∙◌}
+use Rattle.std.proofs.Common.{◌≡◌, ◌≢◌, ℕ, ◌+◌, inl, inr, Bool, true, false, cond, ◌∷◌, length, map, reverse, set, refl, sym, ap, subst, ◌∙◌}
 use Rattle.std.specs.Prelude.{slice_get, nat_lt}
-use Rattle.std.specs.List.{AllByRecursion}
 use Rattle.std.proofs.lemmas.Bool.{cases_Bool}
 use Rattle.std.specs.declared.option.Option.TheVariants.{Some}
 use Rattle.circular_buffer.specs.Buffer.{Buffer}
 use Rattle.data_format.specs.declared.source.SourceId.{SourceId}
 use Rattle.agent_spec.specs.Sources as spec
-use Rattle.agent_spec.specs.Samples.{Packet, Sample, Setup}
+use Rattle.agent_spec.specs.Samples.{Packet, Setup}
 use Rattle.agent_spec.specs.Events.{Event, Observe, turn_after}
 use Rattle.agent_spec.specs.Marks.{is_marked}
-use Rattle.agent_spec.specs.Boots.{Boot, happened, MayHappen, IsAmong, after_packet, with_seen, with_dropped, issue, flow_sample, seen_in}
+use Rattle.agent_spec.specs.Boots.{Boot, IsAmong, after_packet, with_seen, with_dropped, issue, flow_sample, seen_in}
 use Rattle.agent_spec.proofs.Keys.{source-eq}
 use Rattle.agent_sampler.specs.Following as flows
 use Rattle.agent_sampler.proofs.Follows as sampled
@@ -22,8 +21,8 @@ use Rattle.sub_agents.specs.declared.staged.Staged.{Staged}
 use Rattle.sub_agents.specs.Setups.{form_of, flow_source, counter_source}
 use Rattle.sub_agents.specs.Staged.{staged_value, sample_value}
 use Rattle.sub_agents.specs.Counts.{flow_setup, HasCounts, HasPolls, flow_sources}
-use Rattle.sub_agents.specs.Ids.{AreDistinct}
-use Rattle.sub_agents.specs.SubAgents.{SubAgentState, sender_of, setup_of, BootSoFar, with_event, so_far, HasCountsOf, StandsFor}
+use Rattle.agent_setups.specs.Ids.{AreDistinct}
+use Rattle.sub_agents.specs.SubAgents.{SubAgentState, setup_of, BootSoFar, with_event, so_far, StandsFor}
 use Rattle.sub_agents.proofs.Lists.{each-set, each-map, map-set, among-get}
 
 -- sources of two indexes or classes are two

@@ -2,10 +2,8 @@
 use Rattle.std.proofs.Common.{◌≡◌, ℕ, ◌+◌, ◌-◌, ◌<◌, ◌≤◌, inl, inr, Bool, true, false, not, cond, List, [], ◌∷◌, ◌++◌, length, map, reverse, drop, take, refl, sym, ap, subst, ◌∙◌, arith, length-append}
 use Rattle.std.proofs.lemmas.List.{length-reverse, reverse-append}
 use Rattle.std.specs.Prelude.{◌==◌, nat_lt, slice_get}
-use Rattle.std.specs.List.{AllByRecursion}
-use Rattle.std.proofs.lemmas.Bool.{cases_lt, eqb-true, eqb-false, ltb-true, ltb-false, cases_Bool, true≢false}
-use Rattle.std.specs.declared.option.Option.{Option}
-use Rattle.std.specs.declared.option.Option.TheVariants.{Some, None}
+use Rattle.std.proofs.lemmas.Bool.{eqb-true, eqb-false, ltb-true, ltb-false, cases_Bool}
+use Rattle.std.specs.declared.option.Option.TheVariants.{Some}
 use Rattle.circular_buffer.specs.Buffer.{Buffer, buffer, keep_last}
 use Rattle.data_format.specs.declared.heads.FlowHead.{FlowHead}
 use Rattle.data_format.specs.declared.heads.Form.{Form}
@@ -25,7 +23,6 @@ use Rattle.sub_agents.specs.declared.sources.FlowSource.{FlowSource}
 use Rattle.sub_agents.specs.declared.sources.Taken.{Taken}
 use Rattle.sub_agents.specs.declared.sources.Taken.TheVariants.{Passed, Dropped, Issued}
 use Rattle.sub_agents.specs.declared.packet.Packet.{Packet}
-use Rattle.sub_agents.specs.declared.packet.Seen.{Seen}
 use Rattle.sub_agents.specs.declared.packet.Seen.TheVariants as seen
 use Rattle.sub_agents.specs.declared.staged.StagedFlow.{StagedFlow}
 use Rattle.sub_agents.specs.declared.staged.Staged.{Staged}
@@ -34,7 +31,7 @@ use Rattle.sub_agents.specs.Setups.{form_of, flow_source}
 use Rattle.sub_agents.specs.Packets.{packet_of}
 use Rattle.sub_agents.specs.Staged.{staged_value, flow_value, sample_value}
 use Rattle.sub_agents.specs.Counts.{flow_setup, flow_sources, HasCounts, taken_of}
-use Rattle.sub_agents.specs.Ids.{AreDistinct}
+use Rattle.agent_setups.specs.Ids.{AreDistinct}
 use Rattle.sub_agents.specs.Answers.{seen_by}
 use Rattle.sub_agents.specs.SubAgents.{SubAgentState, BootSoFar, so_far, with_event, StandsFor}
 use Rattle.sub_agents.proofs.Cuts.{map-length}

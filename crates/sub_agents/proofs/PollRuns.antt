@@ -1,28 +1,27 @@
 -- A poll, source by source.
-use Rattle.std.proofs.Common.{◌≡◌, ℕ, zero, suc, ◌+◌, ◌-◌, ◌<◌, ◌≤◌, min, inl, inr, Bool, true, false, List, [], ◌∷◌, ◌++◌, length, map, take, drop, set, reverse, filter, take-append-drop, refl, sym, ap, subst, ◌∙◌, arith, length-append, length-set, take_all}
+use Rattle.std.proofs.Common.{◌≡◌, ℕ, zero, suc, ◌+◌, ◌<◌, ◌≤◌, min, inl, inr, Bool, true, false, List, [], ◌∷◌, ◌++◌, length, map, take, drop, set, reverse, filter, take-append-drop, refl, sym, ap, subst, ◌∙◌, arith, length-append, length-set, take_all}
 use Rattle.std.specs.Prelude.{slice_get, Result, Ok, Err, OnOk, OnErr, is_err}
 use Rattle.std.proofs.lemmas.Bool.{cases_Bool}
 use Rattle.std.proofs.lemmas.List.{length-reverse}
 use Rattle.std.specs.declared.option.Option.TheVariants.{Some}
-use Rattle.circular_buffer.specs.Buffer.{Buffer, buffer}
+use Rattle.circular_buffer.specs.Buffer.{buffer}
 use Rattle.wire_spec.specs.Shapes.{Tree}
 use Rattle.data_format.specs.Records.{Content}
 use Rattle.data_format.specs.declared.source.SourceId.{SourceId}
 use Rattle.rec_counters.specs.Contents.{interface_content}
 use Rattle.agent_spec.specs.Sources as spec
-use Rattle.agent_spec.specs.Samples.{Sample, Setup}
-use Rattle.agent_spec.specs.Events.{Event, Poll}
+use Rattle.agent_spec.specs.Samples.{Setup}
+use Rattle.agent_spec.specs.Events.{Event}
 use Rattle.agent_spec.specs.Boots.{Boot, is_due, due_sources, after_poll}
 use Rattle.agent_poller.specs.Polling.{PollerState}
-use Rattle.sub_agents.specs.declared.staged.Staged.{Staged}
 use Rattle.sub_agents.specs.declared.staged.Staged.TheVariants.{Counters}
 use Rattle.sub_agents.specs.Setups.{form_of}
 use Rattle.sub_agents.specs.Staged.{staged_value, sample_value}
 use Rattle.sub_agents.specs.Counts.{counter_setup}
 use Rattle.sub_agents.specs.Polls.{is_due_at, due_ids, places, Gave, Polled, PolledOne}
-use Rattle.sub_agents.specs.SubAgents.{SubAgentState, sender_of, setup_of, BootSoFar, so_far, with_event, HasCountsOf, StandsFor}
+use Rattle.sub_agents.specs.SubAgents.{SubAgentState, sender_of, setup_of, BootSoFar, so_far, HasCountsOf, StandsFor}
 use Rattle.sub_agents.proofs.Cuts.{map-length}
-use Rattle.sub_agents.proofs.Lists.{some-eq, none-some, map-set}
+use Rattle.sub_agents.proofs.Lists.{map-set}
 use Rattle.sub_agents.proofs.PollLists.{take-next, get-map, filter-at, front-length, one-more, no-more, gave-last}
 use Rattle.sub_agents.proofs.PollSteps.{nothing-read, read-last, due-are, polled-step, polled-counts}
 

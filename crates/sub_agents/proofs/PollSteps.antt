@@ -1,16 +1,14 @@
 -- What a sub-agent stands for while it polls its sources one by one.
-use Rattle.std.proofs.Common.{◌≡◌, ◌≢◌, ℕ, zero, suc, ◌+◌, ◌-◌, ◌<◌, ◌≤◌, min, inl, inr, Bool, true, false, cond, List, [], ◌∷◌, ◌++◌, length, map, take, drop, set, reverse, filter, refl, sym, ap, subst, ◌∙◌, arith, length-append}
+use Rattle.std.proofs.Common.{◌≡◌, ◌≢◌, ℕ, ◌+◌, inl, inr, List, [], ◌∷◌, ◌++◌, length, map, set, reverse, filter, refl, sym, ap, subst, ◌∙◌}
 use Rattle.std.specs.Prelude.{slice_get}
 use Rattle.std.specs.List.{AllByRecursion}
 use Rattle.std.proofs.lemmas.Bool.{cases_Bool}
-use Rattle.std.proofs.lemmas.List.{length-reverse, reverse-append}
+use Rattle.std.proofs.lemmas.List.{reverse-append}
 use Rattle.std.specs.declared.option.Option.TheVariants.{Some}
-use Rattle.circular_buffer.specs.Buffer.{Buffer, buffer}
+use Rattle.circular_buffer.specs.Buffer.{buffer}
 use Rattle.wire_spec.specs.Shapes.{Tree, known, none, ◌&◌}
-use Rattle.data_format.specs.declared.heads.CountersHead.{CountersHead}
 use Rattle.data_format.specs.declared.heads.Form.{Form}
 use Rattle.data_format.specs.declared.heads.Form.TheVariants.{Compact, Expanded}
-use Rattle.data_format.specs.declared.source.SourceId.{SourceId}
 use Rattle.rec_counters.specs.Contents.{interface_content}
 use Rattle.agent_spec.specs.Sources as spec
 use Rattle.agent_spec.specs.Samples as samples
@@ -18,7 +16,7 @@ use Rattle.agent_spec.specs.Samples.{Sample, Setup}
 use Rattle.agent_spec.specs.Spelled.{sample_tree}
 use Rattle.agent_spec.specs.Events.{Event, Poll, turn_after}
 use Rattle.agent_spec.specs.Polls.{is_due_after}
-use Rattle.agent_spec.specs.Boots.{Boot, happened, is_sample_of, seen_in, issued_in, dropped_in, last_poll, is_due, due_sources, counter_sample, after_poll}
+use Rattle.agent_spec.specs.Boots.{Boot, is_sample_of, seen_in, issued_in, dropped_in, last_poll, is_due, counter_sample, after_poll}
 use Rattle.agent_spec.proofs.Lists.{filter-yes, filter-no}
 use Rattle.agent_spec.proofs.Keys.{other-turn}
 use Rattle.agent_spec.proofs.Turns.{turn-stays}
@@ -29,13 +27,12 @@ use Rattle.agent_poller.specs.Polling as polling
 use Rattle.agent_poller.specs.Polling.{PollerState, number_behind}
 use Rattle.agent_poller.proofs.Follows.{own-poll, other-poll}
 use Rattle.sub_agents.specs.declared.sources.FlowSource.{FlowSource}
-use Rattle.sub_agents.specs.declared.staged.Staged.{Staged}
 use Rattle.sub_agents.specs.declared.staged.Staged.TheVariants.{Counters}
 use Rattle.sub_agents.specs.declared.staged.StagedCounters.{StagedCounters}
 use Rattle.sub_agents.specs.Setups.{form_of, flow_source, counter_source}
 use Rattle.sub_agents.specs.Staged.{staged_value, counters_value, sample_value}
 use Rattle.sub_agents.specs.Counts.{counter_setup, HasCounts, HasPolls, polled_sources}
-use Rattle.sub_agents.specs.Ids.{AreDistinct}
+use Rattle.agent_setups.specs.Ids.{AreDistinct}
 use Rattle.sub_agents.specs.Polls.{is_due_at}
 use Rattle.sub_agents.specs.SubAgents.{SubAgentState, HasCountsOf}
 use Rattle.sub_agents.proofs.Lists.{each-get, each-set, each-map, map-last, some-eq, none-some}

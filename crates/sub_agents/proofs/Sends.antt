@@ -1,21 +1,21 @@
 -- What a sub-agent stands for once it has sent.
-use Rattle.std.proofs.Common.{◌≡◌, ℕ, zero, suc, ◌+◌, ◌%◌, ◌≤◌, ◌<◌, Bool, List, [], ◌∷◌, ◌++◌, length, map, reverse, take, drop, refl, sym, ap, subst, ◌∙◌, arith, append_assoc, length-append, take_at, drop_at}
+use Rattle.std.proofs.Common.{◌≡◌, ℕ, ◌+◌, ◌%◌, ◌≤◌, Bool, List, [], ◌∷◌, ◌++◌, length, map, reverse, take, drop, refl, sym, ap, subst, ◌∙◌, arith, append_assoc, length-append, take_at, drop_at}
 use Rattle.std.proofs.lemmas.List.{append-nil, reverse-reverse}
 use Rattle.std.proofs.lemmas.List.Sums.{sum_by-cons}
 use Rattle.std.specs.Prelude.{nat_le}
-use Rattle.std.specs.List.{AllByRecursion, sum_by}
+use Rattle.std.specs.List.{sum_by}
 use Rattle.std.specs.declared.option.Option.{Option}
 use Rattle.std.specs.declared.option.Option.TheVariants.{Some}
 use Rattle.wire_spec.specs.Shapes.{Tree, Trees, ◌&◌}
 use Rattle.wire_spec.specs.Heads.{datagram_tree}
 use Rattle.wire_spec.specs.Spelling.{spell}
 use Rattle.data_format.specs.Addresses.{address_of}
-use Rattle.circular_buffer.specs.Buffer.{Buffer, buffer}
+use Rattle.circular_buffer.specs.Buffer.{buffer}
 use Rattle.agent_spec.specs.Samples.{Sample, Datagram, Setup}
 use Rattle.agent_spec.specs.Spelled.{Sender, sample_trees, fits_in, sent_bytes}
 use Rattle.agent_spec.specs.Events.{Send}
 use Rattle.agent_spec.specs.Packing.{joined, longest, cut}
-use Rattle.agent_spec.specs.Boots.{Boot, packed, with_sent}
+use Rattle.agent_spec.specs.Boots.{packed, with_sent}
 use Rattle.agent_spec.proofs.Prefixes.{cut-joins}
 use Rattle.agent_sampler.specs.Following as flows
 use Rattle.agent_sampler.proofs.Follows as sampled
@@ -27,9 +27,10 @@ use Rattle.sub_agents.specs.declared.staged.Staged.{Staged}
 use Rattle.sub_agents.specs.Setups.{form_of, flow_source, counter_source}
 use Rattle.sub_agents.specs.Staged.{values, staged_value, sample_value, datagram_bytes}
 use Rattle.sub_agents.specs.Counts.{HasCounts, HasPolls}
-use Rattle.sub_agents.specs.SubAgents.{SubAgentState, sender_of, setup_of, BootSoFar, with_event, so_far, HasCountsOf, StandsFor, trees_fit}
-use Rattle.sub_agents.specs.Outlets.{PutView, Took, puts_behind, puts_of}
-use Rattle.sub_agents.specs.Sent.{staged_values, next_size, next_put}
+use Rattle.sub_agents.specs.SubAgents.{SubAgentState, sender_of, BootSoFar, with_event, so_far, StandsFor, trees_fit}
+use Rattle.agent_outlets.specs.Outlets.{PutView, Took}
+use Rattle.sub_agents.specs.Outlets.{puts_behind, puts_of}
+use Rattle.sub_agents.specs.Sent.{staged_values, next_size, next_put, moved, after_one}
 use Rattle.sub_agents.proofs.Lists.{each-map}
 use Rattle.sub_agents.proofs.Cuts.{cut-next, map-take, map-drop, map-length, cut-map}
 
@@ -109,10 +110,6 @@ took-none old = λ before e. e ∙ ap (λ (l : List PutView). Some l) (sym (appe
 
 -- ---- while it sends
 
--- a sub-agent whose stage and whose number of datagrams are these
-abbrev pub moved : SubAgentState → Buffer Staged → ℕ → SubAgentState
-moved s stage numbered = record s { stage = stage; numbered = numbered }
-
 -- these datagrams have left
 pub record HasLeft (start now : SubAgentState) (done : List (List Tree)) : Type 0 where
   pub same : now ≡ moved start (buffer now.stage.items start.stage.capacity) (start.numbered + length done)
@@ -139,9 +136,6 @@ sending-start s old uptime =
 -- a sub-agent whose next datagram has left
 abbrev pub next_values : SubAgentState → List Tree
 next_values s = take (next_size s) (staged_values s)
-
-abbrev pub after_one : SubAgentState → SubAgentState
-after_one s = moved s (buffer (drop (next_size s) s.stage.items) s.stage.capacity) (1 + s.numbered)
 
 pub left-step : (start s : SubAgentState) (done : List (List Tree)) → HasLeft start s done → 1 ≤ length s.stage.items
     → HasLeft start (after_one s) (done ++ next_values s ∷ [])

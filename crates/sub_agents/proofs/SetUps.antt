@@ -1,14 +1,13 @@
 -- A set-up that breaks no rule.
-use Rattle.std.proofs.Common.{◌≡◌, ℕ, ◌<◌, ◌≤◌, Bool, true, false, cond, List, length, refl, sym, ap, ◌∙◌}
-use Rattle.std.specs.Prelude.{◌==◌, ◌&&◌, ◌||◌, nat_lt, nat_le}
+use Rattle.std.proofs.Common.{◌≡◌, ℕ, Bool, true, false, cond, refl}
+use Rattle.std.specs.Prelude.{◌==◌, ◌&&◌, ◌||◌, nat_lt}
 use Rattle.std.specs.declared.option.Option.{Option}
 use Rattle.std.specs.declared.option.Option.TheVariants.{Some, None}
 use Rattle.std.proofs.lemmas.Bool.{true≢false}
-use Rattle.data_format.specs.declared.source.SourceId.{SourceId}
 use Rattle.data_format.specs.declared.heads.Form.{Form}
-use Rattle.sub_agents.specs.declared.setup.Setup.{Setup}
-use Rattle.sub_agents.specs.Ids.{has_twice, has_great_class, has_great_index}
-use Rattle.sub_agents.specs.Faults.{sampled_ids, polled_ids, has_zero_rate, has_zero_time, is_compact, setup_fault}
+use Rattle.agent_setups.specs.declared.setup.Setup.{Setup}
+use Rattle.agent_setups.specs.Ids.{has_twice, has_great_class, has_great_index}
+use Rattle.agent_setups.specs.Faults.{sampled_ids, polled_ids, has_zero_rate, has_zero_time, is_compact, setup_fault}
 
 passes : (b : Bool) (n : ℕ) (rest : Option ℕ) → cond b (Some n) rest ≡ None → (b ≡ false) × (rest ≡ None)
 passes true n rest e = absurd cc

@@ -1,5 +1,5 @@
 -- How many bytes samples and datagrams have.
-use Rattle.std.proofs.Common.{◌≡◌, ℕ, ◌+◌, ◌*◌, ◌%◌, List, [], ◌∷◌, ◌++◌, length, replicate, take, refl, sym, ap, ◌∙◌, arith}
+use Rattle.std.proofs.Common.{◌≡◌, ℕ, ◌+◌, ◌*◌, ◌%◌, List, [], ◌++◌, length, replicate, take, refl, arith}
 use Rattle.std.proofs.lemmas.List.{length-append, length-replicate}
 use Rattle.std.specs.declared.option.Option.{Option}
 use Rattle.std.specs.declared.option.Option.TheVariants.{Some, None}
@@ -16,14 +16,13 @@ use Rattle.agent_spec.specs.Samples as samples
 use Rattle.agent_spec.specs.Spelled.{sample_tree, flow_records, switch_records}
 use Rattle.sub_agents.specs.declared.staged.StagedFlow.{StagedFlow}
 use Rattle.sub_agents.specs.declared.staged.StagedCounters.{StagedCounters}
-use Rattle.sub_agents.specs.declared.staged.Staged.{Staged}
 use Rattle.sub_agents.specs.declared.staged.Staged.TheVariants.{Flow, Counters}
 use Rattle.sub_agents.specs.Setups.{form_of}
-use Rattle.sub_agents.specs.Staged.{header_value, staged_value, staged_size}
-use Rattle.sub_agents.specs.Sizes.{flow_front, vlan_size, flow_bytes, counters_bytes}
+use Rattle.sub_agents.specs.Staged.{header_value, staged_size}
+use Rattle.sub_agents.specs.Sizes.{vlan_size, flow_bytes, counters_bytes}
 
 -- a frame whose fields are whole words
-known-size : (k : ℕ) (t : Tree) → length (spell t) % 4 ≡ 0 → length (spell (known k t [])) ≡ 8 + length (spell t)
+pub known-size : (k : ℕ) (t : Tree) → length (spell t) % 4 ≡ 0 → length (spell (known k t [])) ≡ 8 + length (spell t)
 known-size k t words =
     let n = length (spell t ++ []) in
     omega (
@@ -35,7 +34,7 @@ known-size k t words =
     )
 
 -- the front of a packet
-raw-size : (frame_length : ℕ) (bytes : List ℕ)
+pub raw-size : (frame_length : ℕ) (bytes : List ℕ)
     → length (spell (known 1 (Tree.structure (Tree.word 1 & Tree.word frame_length & Tree.word 4 & Tree.opaque bytes & none)) []))
     ≡ 24 + (length bytes + padding_of (length bytes))
 raw-size frame_length bytes =
@@ -48,7 +47,7 @@ raw-size frame_length bytes =
     ) in
     omega (arith, fields, known-size 1 t (omega (arith, fields)))
 
-vlan-size : (vlan : Option ℕ) → length (spell_all (switch_records vlan)) ≡ vlan_size vlan
+pub vlan-size : (vlan : Option ℕ) → length (spell_all (switch_records vlan)) ≡ vlan_size vlan
 vlan-size None = refl
 vlan-size (Some vlan) = refl
 

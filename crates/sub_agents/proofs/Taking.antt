@@ -1,5 +1,5 @@
 -- What comes of a packet, by the verdict on it.
-use Rattle.std.proofs.Common.{◌≡◌, ℕ, ◌+◌, Bool, true, false, refl, sym, ◌∙◌}
+use Rattle.std.proofs.Common.{◌≡◌, Bool, true, false, refl, sym, ◌∙◌}
 use Rattle.agent_sampler.specs.Sampling.{verdict_on}
 use Rattle.agent_sampler.specs.declared.sampler.Verdict.{Verdict}
 use Rattle.agent_sampler.specs.declared.sampler.Verdict.TheVariants.{Marked, Passed}

@@ -1,5 +1,5 @@
 -- What the calls of a sub-agent answer.
-use Rattle.std.specs.Prelude.{◌≡◌, ℕ, ◌+◌, ◌%◌, Bool, true, false, not, ◌||◌, cond, List, [], ◌∷◌, Result, Ok, Err}
+use Rattle.std.specs.Prelude.{◌+◌, Bool, true, false, not, cond, List, [], ◌∷◌, Result, Ok, Err}
 use Rattle.std.specs.declared.option.Option.{Option}
 use Rattle.std.specs.declared.option.Option.TheVariants.{Some, None}
 use Rattle.agent_spec.specs.Sources as spec
@@ -14,7 +14,7 @@ use Rattle.sub_agents.specs.declared.packet.Seen.{Seen}
 use Rattle.sub_agents.specs.declared.packet.Seen.TheVariants.{Passed, Issued, Dropped}
 use Rattle.sub_agents.specs.declared.packet.ObserveRefusal.{ObserveRefusal}
 use Rattle.sub_agents.specs.declared.packet.ObserveRefusal.TheVariants.{NoSource, BadPort, TooLarge}
-use Rattle.sub_agents.specs.Ids.{is_among}
+use Rattle.agent_setups.specs.Ids.{is_among}
 use Rattle.sub_agents.specs.Counts.{flow_sources, polled_sources}
 use Rattle.sub_agents.specs.Packets.{packet_of, ports_fit}
 use Rattle.sub_agents.specs.Setups.{flow_source, counter_source}

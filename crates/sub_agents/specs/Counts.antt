@@ -1,8 +1,6 @@
 -- The sources of a sub-agent, and the counts for which they stand.
-use Rattle.std.specs.Prelude.{◌≡◌, ℕ, ◌+◌, Bool, true, false, cond, List, [], ◌∷◌, map}
+use Rattle.std.specs.Prelude.{◌+◌, Bool, true, false, cond, List, map}
 use Rattle.agent_spec.specs.Sources as spec
-use Rattle.agent_spec.specs.Marks.{is_marked}
-use Rattle.agent_spec.specs.Boots.{last_poll, issued_in}
 use Rattle.data_format.specs.declared.source.SourceId.{SourceId}
 use Rattle.agent_sampler.specs.Sampling as sampling
 use Rattle.agent_sampler.specs.declared.sampler.Marks.{Marks}

@@ -1,13 +1,12 @@
 -- The fields of a sub-agent, and what each keeps.
-use Rattle.std.specs.Prelude.{◌≡◌, ◌≤◌, ℕ, true, List, [], ◌∷◌, length}
+use Rattle.std.specs.Prelude.{◌≡◌, ◌≤◌, true, [], ◌∷◌, length}
 use Rattle.std.specs.List.{AllByRecursion}
-use Rattle.data_format.specs.declared.heads.Form.{Form}
 use Rattle.sub_agents.specs.declared.staged.Staged.{Staged}
 use Rattle.sub_agents.specs.declared.sub_agent.SubAgent.TheInside.{Inside}
 use Rattle.sub_agents.specs.Setups.{IsSourceIn}
 use Rattle.sub_agents.specs.Staged.{IsWritable}
 use Rattle.sub_agents.specs.Counts.{flow_sources, polled_sources}
-use Rattle.sub_agents.specs.Ids.{AreDistinct}
+use Rattle.agent_setups.specs.Ids.{AreDistinct}
 use Rattle.sub_agents.specs.SubAgents.{SubAgentState, staged_fit}
 
 abbrev pub sub_agent_state : Inside → SubAgentState

@@ -1,7 +1,5 @@
 pub mod Setups
-pub mod Faults
 pub mod Opening
-pub mod Ids
 pub mod Packets
 pub mod Staged
 pub mod Sizes
@@ -12,3 +10,5 @@ pub mod Answers
 pub mod Outlets
 pub mod Sent
 pub mod Polls
+pub mod Written
+pub mod Devices

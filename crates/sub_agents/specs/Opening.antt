@@ -1,12 +1,12 @@
 -- The first boot of a sub-agent that was set up.
-use Rattle.std.specs.Prelude.{ℕ, List, [], map}
+use Rattle.std.specs.Prelude.{[], map}
 use Rattle.data_format.specs.Addresses.{address_of}
 use Rattle.data_format.specs.declared.heads.Form.{Form}
 use Rattle.agent_spec.specs.Sources as spec
 use Rattle.agent_spec.specs.Spelled.{Sender, fits_in}
-use Rattle.sub_agents.specs.declared.setup.FlowSetup.{FlowSetup}
-use Rattle.sub_agents.specs.declared.setup.CounterSetup.{CounterSetup}
-use Rattle.sub_agents.specs.declared.setup.Setup.{Setup}
+use Rattle.agent_setups.specs.declared.setup.FlowSetup.{FlowSetup}
+use Rattle.agent_setups.specs.declared.setup.CounterSetup.{CounterSetup}
+use Rattle.agent_setups.specs.declared.setup.Setup.{Setup}
 use Rattle.sub_agents.specs.Setups.{form_of, flow_source, counter_source}
 use Rattle.sub_agents.specs.SubAgents.{BootSoFar}
 

@@ -1,10 +1,9 @@
 -- Packets as an agent's history has them.
-use Rattle.std.specs.Prelude.{ℕ, nat_lt, Bool, true, ◌&&◌}
+use Rattle.std.specs.Prelude.{nat_lt, Bool, true, ◌&&◌}
 use Rattle.agent_spec.specs.Samples as spec
 use Rattle.data_format.specs.declared.heads.Form.{Form}
 use Rattle.data_format.specs.declared.heads.Form.TheVariants.{Compact, Expanded}
 use Rattle.data_format.specs.declared.port.Port.{Port}
-use Rattle.data_format.specs.Compact.{IsCompactPort}
 use Rattle.sub_agents.specs.declared.packet.Packet.{Packet}
 
 abbrev pub port_of : Port → spec.Port

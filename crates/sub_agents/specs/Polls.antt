@@ -1,5 +1,5 @@
 -- What a poll does. Sources that are due stand in the order of the set-up.
-use Rattle.std.specs.Prelude.{◌≡◌, ℕ, ◌+◌, ◌-◌, ◌≤◌, min, nat_le, ◌||◌, ◌==◌, Bool, List, [], ◌∷◌, ◌++◌, length, map, take, set, slice_get, Result, Ok, Err}
+use Rattle.std.specs.Prelude.{◌≡◌, ℕ, ◌+◌, ◌-◌, min, nat_le, ◌||◌, ◌==◌, Bool, List, [], ◌∷◌, ◌++◌, length, map, take, set, slice_get, Result, Ok, Err}
 use Rattle.std.specs.List.{filter}
 use Rattle.std.specs.declared.option.Option.TheVariants.{Some}
 use Rattle.circular_buffer.specs.Buffer.{buffer}
@@ -12,7 +12,7 @@ use Rattle.data_format.specs.declared.source.SourceId.{SourceId}
 use Rattle.rec_counters.specs.Contents.{interface_content}
 use Rattle.agent_spec.specs.Events.{Poll}
 use Rattle.agent_spec.specs.Polls.{is_due_after}
-use Rattle.agent_poller.specs.Meters.{next_count}
+use Rattle.agent_spec.specs.Counting.{next_count}
 use Rattle.agent_poller.specs.Polling as polling
 use Rattle.agent_poller.specs.Polling.{PollerState, number_behind}
 use Rattle.sub_agents.specs.declared.polling.PollRefusal.{PollRefusal}
@@ -21,7 +21,7 @@ use Rattle.sub_agents.specs.declared.staged.StagedCounters.{StagedCounters}
 use Rattle.sub_agents.specs.declared.staged.Staged.TheVariants.{Counters}
 use Rattle.sub_agents.specs.Sizes.{counters_bytes}
 use Rattle.sub_agents.specs.Counts.{counter_setup, polled_sources}
-use Rattle.sub_agents.specs.Ids.{AreDistinct}
+use Rattle.agent_setups.specs.Ids.{AreDistinct}
 use Rattle.sub_agents.specs.SubAgents.{SubAgentState, BootSoFar, with_event, StandsFor}
 
 -- there is no source to be polled, or a counters sample fits a datagram alone

@@ -1,5 +1,5 @@
 -- The set-ups of sub-agents, as an agent's history has them.
-use Rattle.std.specs.Prelude.{◌≢◌, true, false}
+use Rattle.std.specs.Prelude.{true, false}
 use Rattle.agent_spec.specs.Sources as spec
 use Rattle.agent_spec.specs.Spelled as spelled
 use Rattle.data_format.specs.declared.heads.Form.{Form}

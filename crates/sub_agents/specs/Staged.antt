@@ -1,5 +1,5 @@
 -- Samples that wait for a datagram, and their values (sFlow Version 5, section 5).
-use Rattle.std.specs.Prelude.{◌≡◌, ℕ, ◌+◌, ◌≤◌, nat_le, Bool, List, [], ◌∷◌, length, map, take, sum}
+use Rattle.std.specs.Prelude.{◌≡◌, ℕ, ◌≤◌, List, [], ◌∷◌, length}
 use Rattle.wire_spec.specs.Shapes.{Tree, known, Trees, none, ◌&◌}
 use Rattle.wire_spec.specs.Heads.{Head, datagram_tree}
 use Rattle.wire_spec.specs.Spelling.{spell}
@@ -13,7 +13,6 @@ use Rattle.rec_counters.specs.Contents.{interface_content}
 use Rattle.agent_spec.specs.Samples as spec
 use Rattle.agent_spec.specs.Spelled as spelled
 use Rattle.sub_agents.specs.declared.staged.StagedFlow.{StagedFlow}
-use Rattle.sub_agents.specs.declared.staged.StagedCounters.{StagedCounters}
 use Rattle.sub_agents.specs.declared.staged.Staged.{Staged}
 use Rattle.sub_agents.specs.declared.staged.Staged.TheVariants.{Flow, Counters}
 

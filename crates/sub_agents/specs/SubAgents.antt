@@ -1,15 +1,14 @@
 -- A sub-agent, and the history for which it stands. Every list of events has the LATEST FIRST.
-use Rattle.std.specs.Prelude.{◌≡◌, ℕ, ◌+◌, ◌≤◌, nat_le, Bool, List, [], ◌∷◌, length, map, reverse}
+use Rattle.std.specs.Prelude.{◌≡◌, ℕ, ◌+◌, nat_le, Bool, List, [], ◌∷◌, length, map, reverse}
 use Rattle.std.specs.List.{AllByRecursion}
 use Rattle.wire_spec.specs.Shapes.{Tree}
 use Rattle.wire_spec.specs.Spelling.{spell}
-use Rattle.wire_spec.specs.Heads.{AgentAddress, datagram_tree}
+use Rattle.wire_spec.specs.Heads.{datagram_tree}
 use Rattle.data_format.specs.Addresses.{address_of}
 use Rattle.data_format.specs.declared.address.Address.{Address}
 use Rattle.data_format.specs.declared.heads.Form.{Form}
 use Rattle.circular_buffer.specs.Buffer.{Buffer}
-use Rattle.agent_spec.specs.Sources as spec
-use Rattle.agent_spec.specs.Samples.{Sample, Setup}
+use Rattle.agent_spec.specs.Samples.{Setup}
 use Rattle.agent_spec.specs.Spelled.{Sender, fits_in}
 use Rattle.agent_spec.specs.Events.{Event, turn_after}
 use Rattle.agent_spec.specs.Boots.{Boot, happened, MayHappen}

@@ -2,24 +2,25 @@
 //! datagram (sFlow Version 5, section 5).
 #![tactic(auto)]
 
-mod ids;
-mod list_outlet;
+mod device;
+mod device_calls;
+pub mod laws;
 mod observing;
 mod opening;
-mod outlet;
 mod packet;
 mod polling;
 mod resetting;
-mod setup;
+mod sending;
 mod sources;
 mod staged;
 mod sub_agent;
+mod writing;
 
+pub use agent_outlets::{ListOutlet, Outlet, OutletFault, Put};
+pub use agent_setups::{CounterSetup, FlowSetup, OpenRefusal, Setup};
 pub use data_format::{Address, Failed, Form, Port, SourceId};
-pub use list_outlet::{ListOutlet, Put};
-pub use outlet::{Outlet, OutletFault};
+pub use device::Device;
 pub use packet::{ObserveRefusal, Packet, Seen};
 pub use polling::PollRefusal;
 pub use resetting::NoSource;
-pub use setup::{CounterSetup, FlowSetup, OpenRefusal, Setup};
 pub use sub_agent::SubAgent;

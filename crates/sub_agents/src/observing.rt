@@ -12,10 +12,10 @@ ghost use Rattle.sub_agents.specs.Answers.{a_sample, refusal, refusal_in, seen_b
 ghost use Rattle.sub_agents.specs.declared.sources.FlowSource.{FlowSource};
 
 use crate::SubAgent;
-use crate::ids::place_of;
 use crate::packet::{ObserveRefusal, Packet, Seen};
 use crate::sources::Taken;
 use crate::staged::{MAX_HEADER, Staged, flow_size, head_size, stage_packet};
+use agent_setups::place_of;
 use data_format::{Form, Port, SourceId};
 
 // Whether a port can be said in this form.

@@ -4,25 +4,18 @@ ghost use Rattle.std.specs.List.{AllByRecursion, list_any};
 ghost use Rattle.agent_poller.specs.Following.{none_yet as no_polls};
 ghost use Rattle.agent_sampler.specs.Following.{none_yet as no_counts};
 ghost use Rattle.sub_agents.specs.Counts.{flow_setup, counter_setup, flow_sources, polled_sources, HasCounts, HasPolls};
-ghost use Rattle.sub_agents.specs.Faults.{sampled_ids, polled_ids, has_zero_rate, has_zero_time, setup_fault};
+ghost use Rattle.agent_setups.specs.Faults.{sampled_ids, polled_ids, has_zero_rate, has_zero_time, setup_fault};
 ghost use Rattle.sub_agents.specs.Opening.{sampled_as, polled_as, first_boot};
 ghost use Rattle.sub_agents.specs.SubAgents.{StandsFor};
 
 use crate::SubAgent;
-use crate::ids::{has_great_class, has_great_index, has_twice};
-use crate::setup::{CounterSetup, FlowSetup, OpenRefusal, Setup};
 use crate::sources::FlowSource;
 use agent_poller::Poller;
 use agent_sampler::Sampler;
+use agent_setups::{CounterSetup, FlowSetup, OpenRefusal, Setup, fault};
 use circular_buffer::HeapCircularBuffer;
 use data_format::{Form, SourceId};
 use std::alloc::{AllocError, Global};
-
-/// How many sources of a kind a sub-agent has at most.
-const MAX_SOURCES: usize = 1024;
-
-/// How many samples wait at most.
-const MAX_STAGE: u32 = 1024;
 
 // What is sampled.
 fn ids_of_flows(alloc: Global, flows: &[FlowSetup]) -> Result<Vec<SourceId>, AllocError>
@@ -44,60 +37,6 @@ fn ids_of_counters(alloc: Global, counters: &[CounterSetup]) -> Result<Vec<Sourc
         ids.push(counter.source)?;
     }
     Ok(ids)
-}
-
-// Whether some rate is 0.
-fn has_zero_rate(flows: &[FlowSetup]) -> bool
-    ensures { result ≡ has_zero_rate flows.now }
-{
-    for flow in flows {
-        if flow.rate == 0 {
-            return true;
-        }
-    }
-    false
-}
-
-// Whether some source would be polled every 0 ms.
-fn has_zero_time(counters: &[CounterSetup]) -> bool
-    ensures { result ≡ has_zero_time counters.now }
-{
-    for counter in counters {
-        if counter.every == 0 {
-            return true;
-        }
-    }
-    false
-}
-
-// The number of the first rule that a set-up breaks.
-fn fault(setup: &Setup, form: Form, flows: &[SourceId], counters: &[SourceId]) -> Option<u32>
-    requires flows { flows.now ≡ sampled_ids setup.now.flows.items }
-    requires counters { counters.now ≡ polled_ids setup.now.counters.items }
-    ensures { result ≡ setup_fault form setup.now }
-{
-    if setup.max_datagram < 64 || setup.max_datagram > 65_535 {
-        return Some(1);
-    }
-    if setup.stage == 0 || setup.stage > MAX_STAGE {
-        return Some(2);
-    }
-    if flows.len() > MAX_SOURCES || counters.len() > MAX_SOURCES {
-        return Some(3);
-    }
-    if has_twice(flows) || has_twice(counters) {
-        return Some(4);
-    }
-    if has_zero_rate(&setup.flows) || has_zero_time(&setup.counters) {
-        return Some(5);
-    }
-    if has_great_class(flows) || has_great_class(counters) {
-        return Some(6);
-    }
-    if form == Form::Compact && (has_great_index(flows) || has_great_index(counters)) {
-        return Some(7);
-    }
-    None
 }
 
 // The sources of flow samples, of which nothing is counted yet.

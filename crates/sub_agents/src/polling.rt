@@ -1,6 +1,6 @@
 // Counter sources are polled.
 ghost use Rattle.std.specs.Prelude.{◌≡◌, ◌≤◌, ◌<◌, ◌↔◌, true, false, length, slice_get, Some, Err, OnOk, OnErr};
-ghost use Rattle.agent_poller.specs.Meters.{next_count};
+ghost use Rattle.agent_spec.specs.Counting.{next_count};
 ghost use Rattle.agent_poller.specs.Polling.{PollerState};
 ghost use Rattle.sub_agents.specs.SubAgents.{BootSoFar, StandsFor};
 ghost use Rattle.sub_agents.specs.Polls.{counters_fit, is_due_at, places, Polls, PolledOne};

@@ -5,15 +5,15 @@ ghost use Rattle.agent_spec.specs.Events.{Reset};
 ghost use Rattle.agent_poller.specs.Following.{none_yet as no_polls};
 ghost use Rattle.agent_sampler.specs.Following.{none_yet as no_counts};
 ghost use Rattle.sub_agents.specs.Counts.{flow_setup, counter_setup, flow_sources, polled_sources, HasCounts, HasPolls};
-ghost use Rattle.sub_agents.specs.Ids.{is_among};
+ghost use Rattle.agent_setups.specs.Ids.{is_among};
 ghost use Rattle.sub_agents.specs.Setups.{flow_source, counter_source};
 ghost use Rattle.sub_agents.specs.SubAgents.{BootSoFar, StandsFor, with_event, next_boot};
 ghost use Rattle.sub_agents.specs.Answers.{sources_of_kind, source_of_kind};
 
 use crate::SubAgent;
-use crate::ids::place_of;
 use crate::sources::FlowSource;
 use agent_poller::Poller;
+use agent_setups::place_of;
 use data_format::SourceId;
 
 /// The sub-agent has no such source.
@@ -52,6 +52,17 @@ impl SubAgent {
         self.stage.clear();
         self.boot += 1;
         self.numbered = 0;
+    }
+
+    /// Whether it has a source of flow samples, or where `flow` is false a source of counters samples.
+    pub fn has(&self, flow: bool, source: SourceId) -> bool
+        ensures { result ≡ is_among source (sources_of_kind flow self.now) }
+    {
+        if flow {
+            place_of(&self.flow_ids, source).is_some()
+        } else {
+            place_of(&self.counter_ids, source).is_some()
+        }
     }
 
     /// Begins a source of flow samples anew, or where `flow` is false a source of counters samples: its numbers, its

@@ -1,7 +1,7 @@
 -- Laws of what a page and its sink hold together.
 use Rattle.std.proofs.Common.{◌≡◌, ℕ, ◌+◌, ◌<◌, List, [], ◌++◌, flat_map, Result, Ok, Err, IsErrAnd, length, drop, drop-cons, add-one, get_or, sym, ap, ◌∙◌, append_assoc, append-nil, subst}
-use Rattle.sflow_io.specs.Seen.{Seen, Takes, TakesPart, WritesAll}
-use Rattle.sflow_io.proofs.Prefixes.{takes-nil, takes-trans, prefix_after, prefix_longer}
+use Rattle.byte_ends.specs.Seen.{Seen, Takes, TakesPart, WritesAll}
+use Rattle.byte_ends.proofs.Prefixes.{takes-nil, takes-trans, prefix_after, prefix_longer}
 use Rattle.text_lines.specs.Pages.{Puts, Prints, Flushes}
 
 -- nothing was put

@@ -1,7 +1,7 @@
 -- What a page does with the text that passes through it on its way to a sink.
 use Rattle.std.specs.Prelude.{◌≡◌, ℕ, List, [], ◌++◌, MatchResult}
 use Rattle.std.specs.declared.result.Result.{Result}
-use Rattle.sflow_io.specs.Seen.{Seen, Takes, TakesPart}
+use Rattle.byte_ends.specs.Seen.{Seen, Takes, TakesPart}
 
 -- the page held `before`, and now holds `after`: what went on to the sink, and then `after`, are `before` and
 -- then the text; no call of the sink failed

@@ -8,9 +8,9 @@ use crate::Piece;
 use crate::address::{dotted, grouped};
 use crate::hex::{colons, eight_pairs, pair};
 use crate::piece::kind_name;
+use byte_ends::{Failed, Sink, write_all};
 use data_format::{Address, Mac};
 use itoa::Buffer;
-use sflow_io::{Failed, Sink, write_all};
 use std::marker::Model;
 
 const ROOM: usize = 16_384;

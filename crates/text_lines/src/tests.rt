@@ -1,6 +1,6 @@
 use crate::{Page, Piece};
+use byte_ends::MemorySink;
 use data_format::{Address, Mac};
-use sflow_io::MemorySink;
 use wire_spec::FaultKind;
 
 // 2001:db8::1

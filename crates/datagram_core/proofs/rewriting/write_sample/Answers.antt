@@ -48,14 +48,14 @@ returns-in_err-open_flow-in-FlowX-clause-full c = λ h samples has.
     let Short : FlowHead → Type 0 = λ head. left_of w < length (begun_bytes (begun_flow Expanded head)) in
     rw c.in-FlowX.is (if_err c.from_residual-in_err-open_flow-in-FlowX.result
     (front_full w h samples (begun_flow Expanded s.head) (frame_trees flow_records_read s.frames) s.tail has refl
-    (subst Short c.head-in-FlowX.ensures c.in_err-open_flow-in-FlowX.ensures.room.short)))
+    (subst Short c.head-in-FlowX.ensures.head c.in_err-open_flow-in-FlowX.ensures.room.short)))
 
 pub returns-in_ok-open_flow-in-FlowX-clause-has : goal.returns-in_ok-open_flow-in-FlowX-clause-has
 returns-in_ok-open_flow-in-FlowX-clause-has c = λ h samples has.
     let begun = begun_flow Expanded c.head-in-FlowX.result in
     let records = frame_trees (table_of c.records-in-FlowX.result.kind) c.records-in-FlowX.result.frames in
     let t = closed_sample (filled begun records) c.tail-in-FlowX.result.now in
-    let same : t ≡ sample_tree c.args.sample.now = rw (c.head-in-FlowX.ensures, c.records-in-FlowX.ensures, c.tail-in-FlowX.ensures, c.in-FlowX.is) refl in
+    let same : t ≡ sample_tree c.args.sample.now = rw (c.head-in-FlowX.ensures.head, c.records-in-FlowX.ensures, c.tail-in-FlowX.ensures, c.in-FlowX.is) refl in
     has_same c.args.writer.now c.fill-in-FlowX.new.writer c.fill-in-FlowX.result h samples t (sample_tree c.args.sample.now) same
     (c.fill-in-FlowX.ensures.has h samples begun (c.in_ok-open_flow-in-FlowX.ensures.begun h samples has) refl)
 
@@ -64,7 +64,7 @@ returns-in_ok-open_flow-in-FlowX-clause-full c = λ h samples has.
     let begun = begun_flow Expanded c.head-in-FlowX.result in
     let records = frame_trees (table_of c.records-in-FlowX.result.kind) c.records-in-FlowX.result.frames in
     let t = closed_sample (filled begun records) c.tail-in-FlowX.result.now in
-    let same : t ≡ sample_tree c.args.sample.now = rw (c.head-in-FlowX.ensures, c.records-in-FlowX.ensures, c.tail-in-FlowX.ensures, c.in-FlowX.is) refl in
+    let same : t ≡ sample_tree c.args.sample.now = rw (c.head-in-FlowX.ensures.head, c.records-in-FlowX.ensures, c.tail-in-FlowX.ensures, c.in-FlowX.is) refl in
     full_same c.args.writer.now c.fill-in-FlowX.new.writer c.fill-in-FlowX.result h samples t (sample_tree c.args.sample.now) same
     c.open_flow-in-FlowX.new.self (adds_room c.args.writer.now c.open_flow-in-FlowX.new.self c.open_flow-in-FlowX.result _ c.open_flow-in-FlowX.ensures.room)
     (c.fill-in-FlowX.ensures.full h samples begun (c.in_ok-open_flow-in-FlowX.ensures.begun h samples has) refl)
@@ -104,14 +104,14 @@ returns-in_err-open_counters-in-CountersX-clause-full c = λ h samples has.
     let Short : CountersHead → Type 0 = λ head. left_of w < length (begun_bytes (begun_counters Expanded head)) in
     rw c.in-CountersX.is (if_err c.from_residual-in_err-open_counters-in-CountersX.result
     (front_full w h samples (begun_counters Expanded s.head) (frame_trees counter_records_read s.frames) s.tail has refl
-    (subst Short c.head-in-CountersX.ensures c.in_err-open_counters-in-CountersX.ensures.room.short)))
+    (subst Short c.head-in-CountersX.ensures.head c.in_err-open_counters-in-CountersX.ensures.room.short)))
 
 pub returns-in_ok-open_counters-in-CountersX-clause-has : goal.returns-in_ok-open_counters-in-CountersX-clause-has
 returns-in_ok-open_counters-in-CountersX-clause-has c = λ h samples has.
     let begun = begun_counters Expanded c.head-in-CountersX.result in
     let records = frame_trees (table_of c.records-in-CountersX.result.kind) c.records-in-CountersX.result.frames in
     let t = closed_sample (filled begun records) c.tail-in-CountersX.result.now in
-    let same : t ≡ sample_tree c.args.sample.now = rw (c.head-in-CountersX.ensures, c.records-in-CountersX.ensures, c.tail-in-CountersX.ensures, c.in-CountersX.is) refl in
+    let same : t ≡ sample_tree c.args.sample.now = rw (c.head-in-CountersX.ensures.head, c.records-in-CountersX.ensures, c.tail-in-CountersX.ensures, c.in-CountersX.is) refl in
     has_same c.args.writer.now c.fill-in-CountersX.new.writer c.fill-in-CountersX.result h samples t (sample_tree c.args.sample.now) same
     (c.fill-in-CountersX.ensures.has h samples begun (c.in_ok-open_counters-in-CountersX.ensures.begun h samples has) refl)
 
@@ -120,7 +120,7 @@ returns-in_ok-open_counters-in-CountersX-clause-full c = λ h samples has.
     let begun = begun_counters Expanded c.head-in-CountersX.result in
     let records = frame_trees (table_of c.records-in-CountersX.result.kind) c.records-in-CountersX.result.frames in
     let t = closed_sample (filled begun records) c.tail-in-CountersX.result.now in
-    let same : t ≡ sample_tree c.args.sample.now = rw (c.head-in-CountersX.ensures, c.records-in-CountersX.ensures, c.tail-in-CountersX.ensures, c.in-CountersX.is) refl in
+    let same : t ≡ sample_tree c.args.sample.now = rw (c.head-in-CountersX.ensures.head, c.records-in-CountersX.ensures, c.tail-in-CountersX.ensures, c.in-CountersX.is) refl in
     full_same c.args.writer.now c.fill-in-CountersX.new.writer c.fill-in-CountersX.result h samples t (sample_tree c.args.sample.now) same
     c.open_counters-in-CountersX.new.self (adds_room c.args.writer.now c.open_counters-in-CountersX.new.self c.open_counters-in-CountersX.result _ c.open_counters-in-CountersX.ensures.room)
     (c.fill-in-CountersX.ensures.full h samples begun (c.in_ok-open_counters-in-CountersX.ensures.begun h samples has) refl)

@@ -1,5 +1,5 @@
 use Rattle.std.proofs.Common.{◌≡◌, length, arith}
-use Rattle.sflow_io.proofs.ReadFaults.{stops_within}
+use Rattle.byte_ends.proofs.Unread.{stops_within}
 use Rattle.pcap_file.proofs.Headers.{header_told}
 use Rattle.pcap_file.proofs.header.read_header.Goals as goal
 

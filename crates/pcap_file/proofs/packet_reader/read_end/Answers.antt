@@ -1,6 +1,6 @@
 use Rattle.std.proofs.Common.{arith}
-use Rattle.sflow_io.proofs.Filled.{behind_held}
-use Rattle.sflow_io.proofs.ReadFaults.{stops_within}
+use Rattle.byte_ends.proofs.Filled.{behind_held}
+use Rattle.byte_ends.proofs.Unread.{stops_within}
 use Rattle.pcap_file.proofs.packet_reader.read_end.Goals as goal
 
 pub returns-in-Ok-eq0-clause-at_end : goal.returns-in-Ok-eq0-clause-at_end

@@ -1,7 +1,7 @@
 use Rattle.std.proofs.Common.{◌≡◌, ◌<◌, length, refl, arith}
-use Rattle.sflow_io.proofs.Filled.{behind_held}
+use Rattle.byte_ends.proofs.Filled.{behind_held}
 use Rattle.pcap_file.proofs.PacketFronts.{head_stops, head_cut, head_long, head_cut_behind, head_goes_on}
-use Rattle.sflow_io.proofs.ReadFaults.{stops_within}
+use Rattle.byte_ends.proofs.Unread.{stops_within}
 use Rattle.pcap_file.proofs.PacketFaults.{stops_at_head, stops_in_packet}
 use Rattle.pcap_file.proofs.packet_reader.read_packet.Goals as goal
 

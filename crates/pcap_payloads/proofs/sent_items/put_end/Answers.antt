@@ -1,6 +1,4 @@
-use Rattle.std.proofs.Common.{◌++◌, ap}
-use Rattle.text_lines.proofs.PageLaws.{prints_first, prints_second, prints_same}
-use Rattle.pcap_payloads.specs.Outcomes.{header_behind}
+use Rattle.text_lines.proofs.PageLaws.{prints_first, prints_second}
 use Rattle.pcap_payloads.proofs.sent_items.put_end.Goals as goal
 
 pub returns-in_err-put_header_behind : goal.returns-in_err-put_header_behind
@@ -9,5 +7,4 @@ returns-in_err-put_header_behind g c =
 
 pub returns : goal.returns
 returns g c =
-    prints_same _ _ _ _ _ _ _ (ap (λ l. header_behind c.args.taken ++ l) c.end_of.ensures)
-    (prints_second _ _ _ _ _ _ _ _ _ c.in_ok-put_header_behind.ensures c.put.ensures)
+    prints_second _ _ _ _ _ _ _ _ _ c.in_ok-put_header_behind.ensures c.put_end_item.ensures

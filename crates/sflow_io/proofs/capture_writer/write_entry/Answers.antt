@@ -3,8 +3,8 @@ use Rattle.std.proofs.lemmas.List.{take-replicate}
 use Rattle.std.proofs.lemmas.Result.{err_from_is_err_and}
 use Rattle.wire_spec.specs.Padding.{padding_of}
 use Rattle.wire_spec.proofs.CaptureFronts.{entry_bytes_are}
-use Rattle.sflow_io.specs.Seen.{Takes, TakesPart, WritesAll}
-use Rattle.sflow_io.proofs.Prefixes.{prefix_longer, prefix_after, writes_after}
+use Rattle.byte_ends.specs.Seen.{Takes, TakesPart, WritesAll}
+use Rattle.byte_ends.proofs.Prefixes.{prefix_longer, prefix_after, writes_after}
 use Rattle.sflow_io.proofs.capture_writer.write_entry.Goals as goal
 
 pub returns-in_err-write_all : goal.returns-in_err-write_all

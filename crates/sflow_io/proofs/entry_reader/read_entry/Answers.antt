@@ -1,49 +1,43 @@
-use Rattle.std.proofs.Common.{◌≡◌, ◌<◌, length, refl, arith}
-use Rattle.sflow_io.proofs.EntryFronts.{head_stops, head_cut, head_read, head_long, head_goes_on}
-use Rattle.sflow_io.proofs.Filled.{behind_held}
-use Rattle.sflow_io.proofs.ReadFaults.{stops_within, stops_at_head, stops_in_entry}
+use Rattle.std.proofs.Common.{◌≡◌, None, length, take, drop, sym, ap, ◌∙◌, arith}
+use Rattle.std.specs.Int.{w32, from_be_bytes}
+use Rattle.capture_spec.specs.ItemReading.{front_from}
+use Rattle.sflow_io.specs.Fronts.{sized}
+use Rattle.sflow_io.proofs.EntryFronts.{head_cut, head_none, head_sized, head_stops}
+use Rattle.sflow_io.proofs.Fronts.{cut_here, ends_here, failed_here, goes_on, part_filled}
 use Rattle.sflow_io.proofs.entry_reader.read_entry.Goals as goal
 
-pub returns-then-count-eq0-clause-told : goal.returns-then-count-eq0-clause-told
-returns-then-count-eq0-clause-told g c = λ bytes told.
+pub returns-in_default : goal.returns-in_default
+returns-in_default g c =
     let room : length c.read_most.new.room ≡ 12 = omega arith in
-    head_stops _ _ _ _ _ room told c.in-Ok.ensures.reads c.if-count-eq0.true
+    record {
+      reads = failed_here _ _ _ _ _ _ _ _ c.in_default.ensures.reads c.in_default.ensures.none
+          (λ bytes short. head_none bytes (omega (arith, short, room)));
+    }
 
-pub returns-then-count-lt12-clause-told : goal.returns-then-count-lt12-clause-told
-returns-then-count-lt12-clause-told g c = λ bytes told.
+pub returns-then-count-eq0 : goal.returns-then-count-eq0
+returns-then-count-eq0 g c =
     let room : length c.read_most.new.room ≡ 12 = omega arith in
-    let some : 0 < c.in-Ok.count = omega arith in
-    (0, head_cut _ _ _ _ _ room told c.in-Ok.ensures.reads some c.if-count-lt12.true, omega arith)
+    record {
+      reads = ends_here _ _ _ _ _ _ _ _ _ c.in-Ok.ensures.reads c.if-count-eq0.true (omega (arith, room))
+          (λ bytes none. ap (front_from None 0) (head_stops bytes none));
+    }
 
-pub returns-then-len-gt65535-clause-told : goal.returns-then-len-gt65535-clause-told
-returns-then-len-gt65535-clause-told g c = λ bytes told.
+pub returns-then-count-lt12 : goal.returns-then-count-lt12
+returns-then-count-lt12 g c =
     let room : length c.read_most.new.room ≡ 12 = omega arith in
-    let head =
-    head_read c.in-Ok.count bytes _ _ _ room told c.in-Ok.ensures.reads _ _ c.if-count-lt12.false
-    c.arrival_in-at.ensures c.length_in-len.ensures in
-    (8, head_long _ _ _ _ _ room told c.in-Ok.ensures.reads _ _ head c.if-len-gt65535.true, refl)
+    record {
+      reads = cut_here _ _ _ _ _ _ _ _ _ c.in-Ok.ensures.reads (omega arith) (omega (arith, room, c.if-count-lt12.true))
+          (λ bytes some short. ap (front_from None 0) (head_cut bytes some (omega (arith, short, room))));
+    }
 
-pub returns-clause-told : goal.returns-clause-told
-returns-clause-told g c = λ bytes told.
+pub returns : goal.returns
+returns g c =
     let room : length c.read_most.new.room ≡ 12 = omega arith in
-    let head =
-    head_read c.in-Ok.count bytes _ _ _ room told c.in-Ok.ensures.reads _ _ c.if-count-lt12.false
-    c.arrival_in-at.ensures c.length_in-len.ensures in
-    rw (head_goes_on _ _ _ _ _ room told c.in-Ok.ensures.reads _ _ head c.if-len-gt65535.false)
-    (c.read_body.ensures.told _ head.left_is)
-
-pub returns-then-count-eq0-clause-at_end : goal.returns-then-count-eq0-clause-at_end
-returns-then-count-eq0-clause-at_end g c =
-    behind_held _ _ (c.in-Ok.ensures.reads.all (omega arith))
-
-pub returns-in_default-clause-stops : goal.returns-in_default-clause-stops
-returns-in_default-clause-stops g c = λ failed.
-    let room : length c.read_most.new.room ≡ 12 = omega arith in
-    let stops = stops_within _ _ _ _ 12 c.in_default.ensures.reads c.in_default.ensures.none room in
-    stops_at_head _ _ 12 stops (omega arith)
-
-pub returns-clause-stops : goal.returns-clause-stops
-returns-clause-stops g c = λ failed.
-    let room : length c.read_most.new.room ≡ 12 = omega arith in
-    stops_in_entry _ _ _ _ _ _ c.in-Ok.ensures.reads room c.if-count-lt12.false c.length_in-len.ensures
-    (c.read_body.ensures.stops failed)
+    let part = part_filled c.args.offset _ _ _ _ _ _ c.in-Ok.ensures.reads (omega (arith, room, c.if-count-lt12.false)) in
+    record {
+      reads = goes_on _ _ _ _ _ _ _ _ _ _ _ _ part
+          (λ tail. ap (front_from None 0) (head_sized c.read_most.new.room tail room
+          ∙ ap (λ n. sized n (from_be_bytes w32 (take 4 (drop 8 c.read_most.new.room))) tail) (sym c.arrival_in.ensures)
+          ∙ ap (λ n. sized c.arrival_in.result n tail) (sym c.word_in.ensures)))
+          c.read_sized.ensures.reads;
+    }

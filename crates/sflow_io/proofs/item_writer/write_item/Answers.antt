@@ -1,6 +1,6 @@
 use Rattle.std.proofs.lemmas.Result.{err_from_is_err_and}
 use Rattle.sflow_io.proofs.Items.{sent_bytes_are}
-use Rattle.sflow_io.proofs.Prefixes.{prefix_longer, writes_after}
+use Rattle.byte_ends.proofs.Prefixes.{prefix_longer, writes_after}
 use Rattle.sflow_io.proofs.item_writer.write_item.Goals as goal
 
 pub returns-in_err-write_front : goal.returns-in_err-write_front

@@ -1,7 +1,7 @@
 use Rattle.std.proofs.Common.{subst, ◌∙◌}
 use Rattle.std.proofs.lemmas.Result.{err_from_is_err_and}
-use Rattle.sflow_io.specs.Seen.{Takes, TakesPart, WritesAll}
-use Rattle.sflow_io.proofs.Prefixes.{prefix_longer, prefix_after, writes_after}
+use Rattle.byte_ends.specs.Seen.{Takes, TakesPart, WritesAll}
+use Rattle.byte_ends.proofs.Prefixes.{prefix_longer, prefix_after, writes_after}
 use Rattle.sflow_io.proofs.item_writer.write_known.Goals as goal
 
 pub returns-in_err-write_all : goal.returns-in_err-write_all

@@ -1,6 +1,6 @@
-use Rattle.command_words.specs.declared.command.Command.TheVariants.{Check}
+use Rattle.sflow_tool.specs.Checks.{check_act}
 use Rattle.sflow_tool.proofs.Rows.{check_does}
 use Rattle.sflow_tool.proofs.check.check.Goals as goal
 
 pub returns : goal.returns
-returns g c = c.visit_capture.ensures (Check c.args.pad) (check_does c.args.pad)
+returns g c = c.visit_capture.ensures (check_act c.args.pad) (check_does c.args.pad)

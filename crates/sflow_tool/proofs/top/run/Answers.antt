@@ -1,19 +1,40 @@
-use Rattle.std.proofs.Common.{◌≡◌, Some, map, string_bytes, sym, ap, subst, ◌∙◌}
+use Rattle.std.proofs.Common.{◌≡◌, ℕ, List, Option, None, Some, map, string_bytes, sym, ap, subst, ◌∙◌}
 use Rattle.command_words.specs.declared.command.Command.{Command}
 use Rattle.command_words.proofs.Ranges.{limits_within}
-use Rattle.sflow_tool.specs.Outputs.{Decides}
-use Rattle.sflow_tool.proofs.Completed.{completed}
+use Rattle.sflow_tool.specs.Performances.{EndsBy, Performs}
+use Rattle.sflow_tool.proofs.Performed.{completes, lacks_memory, no_usage, of_this}
 use Rattle.sflow_tool.proofs.top.run.Goals as goal
 
 same_command : (c d : Command) → Some c ≡ Some d → c ≡ d
 same_command c d e = cc
 
+no_command : (c : Command) (o : Option Command) → o ≡ Some c → o ≡ None → ⊥
+no_command c o some none = cc
+
 pub perform-requires : goal.perform-requires
-perform-requires g c = λ limits is.
-    limits_within (map string_bytes c.args.words.now) limits (c.in-Ok.ensures.command ∙ ap (λ (d : Command). Some d) is)
+perform-requires g c = λ limits interfaces is.
+    limits_within (map string_bytes c.args.words.now) limits interfaces (c.in-Ok.ensures.command ∙ ap (λ (d : Command). Some d) is)
+
+pub returns-in-Ok-clause-usage : goal.returns-in-Ok-clause-usage
+returns-in-Ok-clause-usage g c = (
+  λ is. absurd (no_usage c.in-Ok.command _ _ (subst (Performs c.in-Ok.command _ _) is c.perform.ensures)),
+  λ none. absurd (no_command c.in-Ok.command _ c.in-Ok.ensures.command none),
+)
+
+pub returns-in-Ok-clause-untouched : goal.returns-in-Ok-clause-untouched
+returns-in-Ok-clause-untouched g c = λ is.
+    absurd (no_usage c.in-Ok.command _ _ (subst (Performs c.in-Ok.command _ _) is c.perform.ensures))
+
+pub returns-in-Ok-clause-runs : goal.returns-in-Ok-clause-runs
+returns-in-Ok-clause-runs g c = λ command words.
+    of_this c.in-Ok.command command _ _ _
+    (same_command command c.in-Ok.command (sym words ∙ c.in-Ok.ensures.command)) c.perform.ensures
+
+pub returns-in-Err-Memory-clause-runs : goal.returns-in-Err-Memory-clause-runs
+returns-in-Err-Memory-clause-runs g c = λ command words. lacks_memory command _
 
 pub returns-in-Ok-clause-complete : goal.returns-in-Ok-clause-complete
-returns-in-Ok-clause-complete g c = λ command input ending words are told decides no_read no_write.
+returns-in-Ok-clause-complete g c = λ command input ending words are told ends no_read no_write.
     let same : command ≡ c.in-Ok.command = same_command command c.in-Ok.command (sym words ∙ c.in-Ok.ensures.command) in
-    completed c.in-Ok.command input _ _ _ _ c.perform.ensures are told
-    (subst (λ (d : Command). Decides d input ending) same decides) no_read no_write
+    completes c.in-Ok.command input _ _ _ _ c.perform.ensures are told
+    (subst (λ (d : Command). EndsBy d input ending) same ends) no_read no_write

@@ -19,13 +19,13 @@ returns-in-Counters g c = λ f is.
 pub returns-in-FlowX : goal.returns-in-FlowX
 returns-in-FlowX g c = λ f is.
     let count = c.len-in-FlowX.ensures ∙ ap length c.frames-in-FlowX.ensures in
-    prints_same _ _ _ _ _ _ _ (front-flowx _ _ _ _ c.in-FlowX.is c.head-in-FlowX.ensures count)
+    prints_same _ _ _ _ _ _ _ (front-flowx _ _ _ _ c.in-FlowX.is c.head-in-FlowX.ensures.head count)
     c.put_flow-in-FlowX.ensures
 
 pub returns-in-CountersX : goal.returns-in-CountersX
 returns-in-CountersX g c = λ f is.
     let count = c.len-in-CountersX.ensures ∙ ap length c.frames-in-CountersX.ensures in
-    prints_same _ _ _ _ _ _ _ (front-countersx _ _ _ _ c.in-CountersX.is c.head-in-CountersX.ensures count)
+    prints_same _ _ _ _ _ _ _ (front-countersx _ _ _ _ c.in-CountersX.is c.head-in-CountersX.ensures.head count)
     c.put_counters-in-CountersX.ensures
 
 pub returns-in-Other : goal.returns-in-Other

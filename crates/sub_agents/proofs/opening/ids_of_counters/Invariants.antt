@@ -1,6 +1,6 @@
 -- The sources so far.
 use Rattle.std.proofs.Common.{◌≡◌, take}
-use Rattle.sub_agents.specs.Faults.{polled_ids}
+use Rattle.agent_setups.specs.Faults.{polled_ids}
 use Rattle.sub_agents.proofs.opening.ids_of_counters.Given as goal
 
 abbrev pub invariant-loop-counter : goal.invariant-loop-counter

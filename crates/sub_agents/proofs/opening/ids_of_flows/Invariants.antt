@@ -1,6 +1,6 @@
 -- The sources so far.
 use Rattle.std.proofs.Common.{◌≡◌, take}
-use Rattle.sub_agents.specs.Faults.{sampled_ids}
+use Rattle.agent_setups.specs.Faults.{sampled_ids}
 use Rattle.sub_agents.proofs.opening.ids_of_flows.Given as goal
 
 abbrev pub invariant-loop-flow : goal.invariant-loop-flow

@@ -3,7 +3,7 @@ use Rattle.std.proofs.Common.{◌≡◌, map, take}
 use Rattle.std.specs.List.{AllByRecursion}
 use Rattle.agent_poller.specs.Following.{none_yet}
 use Rattle.sub_agents.specs.Counts.{counter_setup, polled_sources, HasPolls}
-use Rattle.sub_agents.specs.Faults.{polled_ids}
+use Rattle.agent_setups.specs.Faults.{polled_ids}
 use Rattle.sub_agents.specs.Opening.{polled_as}
 use Rattle.sub_agents.proofs.opening.pollers_of.Given as goal
 

@@ -3,7 +3,7 @@ use Rattle.std.proofs.Common.{◌≡◌, map}
 use Rattle.std.specs.List.{AllByRecursion}
 use Rattle.agent_sampler.specs.Following.{none_yet}
 use Rattle.sub_agents.specs.Counts.{flow_setup, flow_sources, HasCounts}
-use Rattle.sub_agents.specs.Faults.{sampled_ids}
+use Rattle.agent_setups.specs.Faults.{sampled_ids}
 use Rattle.sub_agents.specs.Opening.{sampled_as}
 use Rattle.sub_agents.proofs.opening.sources_of.Given as goal
 

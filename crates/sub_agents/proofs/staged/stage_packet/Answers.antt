@@ -1,4 +1,4 @@
-use Rattle.std.proofs.Common.{◌≡◌, ◌∙◌, ◌++◌, ℕ, List, take, ap}
+use Rattle.std.proofs.Common.{◌∙◌, ◌++◌, ℕ, List, take, ap}
 use Rattle.sub_agents.proofs.Lists.{take-shown}
 use Rattle.sub_agents.proofs.staged.stage_packet.Goals as goal
 

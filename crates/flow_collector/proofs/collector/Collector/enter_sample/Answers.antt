@@ -1,11 +1,27 @@
-use Rattle.std.proofs.Common.{◌∷◌, sym, subst, arith}
+use Rattle.std.proofs.Common.{◌≡◌, ◌∙◌, None, List, ◌∷◌, sym, ap, subst, arith}
+use Rattle.data_format.specs.Views.{FrameView}
 use Rattle.books_spec.specs.Items.{Sample, Other, Got}
 use Rattle.flow_collector.specs.Collectors.{CollectorState, collector_state, StandsFor}
 use Rattle.flow_collector.specs.Steps.{Midway, with_sample}
 use Rattle.flow_collector.proofs.Kept.{other-few}
 use Rattle.flow_collector.proofs.Lists.{length-last}
 use Rattle.flow_collector.proofs.Moves.{with_other, other-stands}
+use Rattle.flow_collector.proofs.Readings.{flow-shown, counters-head, other-shown}
 use Rattle.flow_collector.proofs.collector.Collector.enter_sample.Goals as goal
+
+pub returns-in-Flow : goal.returns-in-Flow
+returns-in-Flow c = record {
+  stands = λ l items d f rest enters same ahead head st.
+      let P : Sample → Type 0 = λ x. StandsFor c.enter.new.self l (Got (with_sample d x) ∷ items) in
+      subst P (c.flow_shown.ensures ∙ flow-shown _ f _ c.in-Flow.is head) (c.enter.ensures.stands l items d enters same st);
+}
+
+pub returns-in-Counters : goal.returns-in-Counters
+returns-in-Counters c = record {
+  stands = λ l items d f rest enters same ahead head st.
+      let this = counters-head _ f _ c.in-Counters.is head in
+      c.enter_counters.ensures.stands l items d this.0 f rest enters same ahead this.1 st;
+}
 
 pub overflow_add-self : goal.overflow_add-self
 overflow_add-self c =
@@ -32,20 +48,12 @@ invariant_of-self c =
       few_entries = omega (arith, room);
     }
 
-pub returns-in-Some : goal.returns-in-Some
-returns-in-Some c = record {
-  stands = λ l items d f enters same of_frame st.
-      let P : Sample → Type 0 = λ x. StandsFor c.enter.new.self l (Got (with_sample d x) ∷ items) in
-      subst P (c.in-Some.ensures f of_frame) (c.enter.ensures.stands l items d enters same st);
-}
-
-pub returns-in-None : goal.returns-in-None
-returns-in-None c = record {
-  stands = λ l items d f enters same of_frame st.
+pub returns-in-Other : goal.returns-in-Other
+returns-in-Other c = record {
+  stands = λ l items d f rest enters same ahead head st.
       let s : CollectorState = collector_state c.self.inside in
-      let S : CollectorState → Type 0 = λ t. StandsFor t l (Got d ∷ items) in
-      let now = other-stands s l items d enters.first (subst S (sym c.self.view_is) st) in
-      let P : Sample → Type 0 = λ x.
-      StandsFor (record s { totals = with_other s.totals }) l (Got (with_sample d x) ∷ items) in
-      subst P (c.in-None.ensures f of_frame) now;
+      let P : CollectorState → Type 0 = λ t. StandsFor t l (Got d ∷ items) in
+      let Q : Sample → Type 0 = λ x. StandsFor (record s { totals = with_other s.totals }) l (Got (with_sample d x) ∷ items) in
+      subst Q (other-shown _ f c.in-Other.is head)
+      (other-stands s l items d enters.first (subst P (sym c.self.view_is) st));
 }

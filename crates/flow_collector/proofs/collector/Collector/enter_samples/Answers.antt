@@ -12,14 +12,14 @@ enter_sample-requires c =
       midway = midway c.args.self.now c.loop-head.self c.args.found.now c.loop-head.index c.args.samples
           c.loop-head.samples c.requires.midway c.loop-head.invariant.so_far;
       few = index-few c.args.self.now c.loop-head.self c.args.found.now c.loop-head.index c.args.samples
-          c.loop-head.samples c.next_head.new.self some.0 some.1 c.requires.few c.loop-head.invariant.so_far;
+          c.loop-head.samples c.next_sample.new.samples some.0 some.1 c.requires.few c.loop-head.invariant.so_far;
     }
 
 pub overflow_add-index : goal.overflow_add-index
 overflow_add-index c =
     let some = c.in-Some.ensures.some in
     let few = index-few c.args.self.now c.loop-head.self c.args.found.now c.loop-head.index c.args.samples
-    c.loop-head.samples c.next_head.new.self some.0 some.1 c.requires.few c.loop-head.invariant.so_far in
+    c.loop-head.samples c.next_sample.new.samples some.0 some.1 c.requires.few c.loop-head.invariant.so_far in
     omega (arith, few)
 
 pub loop-head-preserved : goal.loop-head-preserved
@@ -27,8 +27,8 @@ loop-head-preserved c =
     let some = c.in-Some.ensures.some in
     record {
       so_far = goes-on c.args.self.now c.loop-head.self c.enter_sample.new.self c.args.found.now c.loop-head.index
-          c.args.samples c.loop-head.samples c.next_head.new.self some.0 some.1
-          (λ l items d enters same st. c.enter_sample.ensures.stands l items d some.0 enters same some.2 st)
+          c.args.samples c.loop-head.samples c.next_sample.new.samples some.0 some.1
+          (λ l items d enters same st. c.enter_sample.ensures.stands l items d some.0 c.next_sample.new.samples enters same some.3 some.2 st)
           c.loop-head.invariant.so_far;
     }
 

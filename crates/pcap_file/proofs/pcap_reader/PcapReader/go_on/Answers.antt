@@ -3,7 +3,7 @@ use Rattle.pcap_file.specs.PcapAnswers.{ReaderState}
 use Rattle.pcap_file.specs.PcapSteps.{IsBehind}
 use Rattle.pcap_file.proofs.PcapSteps.{within_given}
 use Rattle.pcap_file.proofs.pcap_reader.PcapReader.go_on.Goals as goal
-use Rattle.sflow_io.specs.CaptureAnswers.{unread}
+use Rattle.byte_ends.specs.Unread.{unread}
 
 pub returns-clause-given : goal.returns-clause-given
 returns-clause-given g c = λ bytes packets behind.

@@ -1,4 +1,4 @@
-use Rattle.std.proofs.Common.{◌+◌, ◌<◌, ◌≤◌, length, sym, subst, arith}
+use Rattle.std.proofs.Common.{◌+◌, ◌<◌, ◌≤◌, length, subst, arith}
 use Rattle.source_ledger.specs.Numbers.{NumbersState}
 use Rattle.source_ledger.proofs.NumberSteps.{first-of-boot, next-generation, same-generation, earlier-generation}
 use Rattle.source_ledger.proofs.generations.GenerationLedger.enter.Goals as goal

@@ -1,4 +1,4 @@
-use Rattle.std.proofs.Common.{◌≡◌, ◌+◌, arith}
+use Rattle.std.proofs.Common.{arith}
 use Rattle.source_ledger.proofs.GenerationCounts.{marks-sum}
 use Rattle.source_ledger.proofs.generations.GenerationLedger.entered.Goals as goal
 

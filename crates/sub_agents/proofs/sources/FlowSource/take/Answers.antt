@@ -1,9 +1,7 @@
 use Rattle.std.proofs.Common.{◌≡◌, ◌∙◌, ◌+◌, Bool, true, false, sym, ap}
 use Rattle.agent_spec.specs.Marks.{is_marked}
-use Rattle.agent_sampler.specs.Following.{FlowCounts}
 use Rattle.agent_sampler.specs.Sampling.{marks_after}
 use Rattle.agent_sampler.specs.declared.sampler.Marks.{Marks}
-use Rattle.sub_agents.specs.declared.sources.Taken.{Taken}
 use Rattle.sub_agents.specs.declared.sources.Taken.TheVariants.{Issued}
 use Rattle.sub_agents.specs.Counts.{taken_of}
 use Rattle.sub_agents.proofs.Taking.{isnt-marked, is-marked}

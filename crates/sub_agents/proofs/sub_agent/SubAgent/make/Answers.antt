@@ -1,14 +1,14 @@
-use Rattle.std.proofs.Common.{◌≡◌, ◌≢◌, ◌≤◌, ℕ, List, [], length, sym, subst, ap, ◌∙◌, arith, true}
+use Rattle.std.proofs.Common.{◌≡◌, ◌≢◌, ◌≤◌, List, [], length, sym, subst, ap, ◌∙◌, arith}
 use Rattle.std.specs.List.{AllByRecursion}
 use Rattle.std.proofs.lemmas.Bool.{ltb-false, eqb-false}
-use Rattle.circular_buffer.specs.Buffer.{Buffer, buffer}
+use Rattle.circular_buffer.specs.Buffer.{Buffer}
 use Rattle.data_format.specs.declared.source.SourceId.{SourceId}
-use Rattle.sub_agents.specs.declared.setup.CounterSetup.{CounterSetup}
+use Rattle.agent_setups.specs.declared.setup.CounterSetup.{CounterSetup}
 use Rattle.sub_agents.specs.declared.staged.Staged.{Staged}
 use Rattle.sub_agents.specs.Setups.{IsSourceIn}
-use Rattle.sub_agents.specs.Ids.{AreDistinct, has_great_index}
+use Rattle.agent_setups.specs.Ids.{AreDistinct, has_great_index}
 use Rattle.sub_agents.specs.Fields.{IsKept}
-use Rattle.sub_agents.specs.Faults.{sampled_ids, polled_ids, is_compact}
+use Rattle.agent_setups.specs.Faults.{sampled_ids, polled_ids, is_compact}
 use Rattle.sub_agents.proofs.IdTests.{neither, distinct, in-form}
 use Rattle.sub_agents.proofs.SetUps.{breaks-none, indexes-fit}
 use Rattle.sub_agents.proofs.sub_agent.SubAgent.make.Goals as goal

@@ -12,10 +12,10 @@ use Rattle.sub_agents.specs.declared.sources.FlowSource.{FlowSource}
 use Rattle.sub_agents.specs.declared.sub_agent.SubAgent.TheInside.{Inside}
 use Rattle.sub_agents.specs.Setups.{flow_source}
 use Rattle.sub_agents.specs.Packets.{packet_of, ports_fit}
-use Rattle.sub_agents.specs.Ids.{is_among}
+use Rattle.agent_setups.specs.Ids.{is_among}
 use Rattle.sub_agents.specs.Counts.{flow_setup, flow_sources}
 use Rattle.sub_agents.specs.Answers.{a_sample, refusal}
-use Rattle.sub_agents.specs.Fields.{sub_agent_state, IsSubAgent}
+use Rattle.sub_agents.specs.Fields.{sub_agent_state}
 use Rattle.sub_agents.specs.SubAgents.{SubAgentState, sender_of}
 use Rattle.sub_agents.proofs.Lists.{among-get}
 use Rattle.sub_agents.proofs.Keeping.{some-at}

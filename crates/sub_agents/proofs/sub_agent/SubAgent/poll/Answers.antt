@@ -1,9 +1,8 @@
-use Rattle.std.proofs.Common.{◌≡◌, ◌∙◌, ◌+◌, ◌<◌, ◌≤◌, ℕ, true, false, length, sym, ap, subst, arith}
-use Rattle.agent_poller.specs.Meters.{next_count}
-use Rattle.agent_poller.specs.Polling.{PollerState}
-use Rattle.sub_agents.specs.Polls.{places, counters_fit, is_due_at, Polled, PolledOne}
+use Rattle.std.proofs.Common.{◌≡◌, ◌∙◌, ◌<◌, true, length, sym, subst, arith}
+use Rattle.agent_spec.specs.Counting.{next_count}
+use Rattle.sub_agents.specs.Polls.{is_due_at, Polled, PolledOne}
 use Rattle.sub_agents.specs.SubAgents.{SubAgentState}
-use Rattle.sub_agents.proofs.PollRuns.{IsPolling, some-get, when-err, when-ok, polling-start, polling-full, polling-later, polling-step, polling-stands, polling-all}
+use Rattle.sub_agents.proofs.PollRuns.{some-get, when-err, when-ok, polling-start, polling-full, polling-later, polling-step, polling-stands, polling-all}
 use Rattle.sub_agents.proofs.sub_agent.SubAgent.poll.Goals as goal
 
 pub loop-place-init : goal.loop-place-init

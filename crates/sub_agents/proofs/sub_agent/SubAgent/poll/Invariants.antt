@@ -1,6 +1,5 @@
 -- The sources before this place were polled, while there were places.
-use Rattle.std.proofs.Common.{◌≡◌, ◌≤◌, length}
-use Rattle.sub_agents.specs.Polls.{places, counters_fit}
+use Rattle.std.proofs.Common.{◌≤◌}
 use Rattle.sub_agents.proofs.PollRuns.{IsPolling}
 use Rattle.sub_agents.proofs.sub_agent.SubAgent.poll.Given as goal
 

@@ -1,10 +1,9 @@
-use Rattle.std.proofs.Common.{◌≡◌, ◌∙◌, ◌++◌, ◌+◌, ◌<◌, ℕ, true, List, [], ◌∷◌, length, set, sym, ap, subst, slice_index_or, arith}
+use Rattle.std.proofs.Common.{◌≡◌, ◌∙◌, ◌++◌, ◌<◌, ℕ, true, [], ◌∷◌, length, set, sym, subst, slice_index_or, arith}
 use Rattle.std.specs.Prelude.{slice_get}
 use Rattle.std.specs.Vec.{with_item}
 use Rattle.std.specs.declared.option.Option.TheVariants.{Some}
-use Rattle.circular_buffer.specs.Buffer.{Buffer, buffer}
+use Rattle.circular_buffer.specs.Buffer.{buffer}
 use Rattle.agent_poller.specs.Polling.{PollerState}
-use Rattle.sub_agents.specs.declared.staged.Staged.{Staged}
 use Rattle.sub_agents.specs.declared.staged.Staged.TheVariants.{Counters}
 use Rattle.sub_agents.specs.declared.staged.StagedCounters.{StagedCounters}
 use Rattle.sub_agents.specs.declared.sub_agent.SubAgent.TheInside.{Inside}

@@ -5,7 +5,7 @@ use Rattle.agent_poller.specs.Polling.{PollerState}
 use Rattle.sub_agents.specs.Counts.{counter_setup}
 use Rattle.sub_agents.specs.Setups.{counter_source}
 use Rattle.sub_agents.specs.Fields.{sub_agent_state}
-use Rattle.sub_agents.specs.SubAgents.{SubAgentState, BootSoFar, StandsFor, with_event}
+use Rattle.sub_agents.specs.SubAgents.{SubAgentState, StandsFor, with_event}
 use Rattle.sub_agents.proofs.Keeping.{source-at, poller-kept}
 use Rattle.sub_agents.proofs.Anew.{with_poller, counter-reset}
 use Rattle.sub_agents.proofs.sub_agent.SubAgent.reset_counter.Goals as goal

@@ -1,10 +1,10 @@
-use Rattle.std.proofs.Common.{◌≡◌, sym, subst}
+use Rattle.std.proofs.Common.{sym, subst}
 use Rattle.data_format.specs.declared.source.SourceId.{SourceId}
 use Rattle.agent_spec.specs.Events.{Reset}
 use Rattle.sub_agents.specs.declared.sources.FlowSource.{FlowSource}
 use Rattle.sub_agents.specs.Setups.{flow_source}
 use Rattle.sub_agents.specs.Fields.{sub_agent_state}
-use Rattle.sub_agents.specs.SubAgents.{SubAgentState, BootSoFar, StandsFor, with_event}
+use Rattle.sub_agents.specs.SubAgents.{SubAgentState, StandsFor, with_event}
 use Rattle.sub_agents.proofs.Keeping.{source-at, flow-kept}
 use Rattle.sub_agents.proofs.Observed.{with_flow}
 use Rattle.sub_agents.proofs.Anew.{flow-reset}

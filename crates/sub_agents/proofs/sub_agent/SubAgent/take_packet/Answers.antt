@@ -1,5 +1,5 @@
 use Rattle.std.proofs.Common.{slice_index_or, ◌≡◌, ◌∙◌, ◌++◌, ◌<◌, ℕ, Bool, true, not, List, [], ◌∷◌, length, sym, ap, subst}
-use Rattle.std.specs.Prelude.{slice_get, ◌==◌}
+use Rattle.std.specs.Prelude.{slice_get}
 use Rattle.std.specs.Vec.{with_item}
 use Rattle.std.specs.declared.option.Option.TheVariants.{Some}
 use Rattle.circular_buffer.specs.Buffer.{Buffer, buffer}
@@ -10,7 +10,6 @@ use Rattle.agent_spec.specs.Spelled.{fits_in}
 use Rattle.sub_agents.specs.declared.sources.FlowSource.{FlowSource}
 use Rattle.sub_agents.specs.declared.sources.Taken.{Taken}
 use Rattle.sub_agents.specs.declared.packet.Packet.{Packet}
-use Rattle.sub_agents.specs.declared.packet.Seen.{Seen}
 use Rattle.sub_agents.specs.declared.packet.Seen.TheVariants as seen
 use Rattle.sub_agents.specs.declared.staged.Staged.{Staged}
 use Rattle.sub_agents.specs.declared.staged.Staged.TheVariants.{Flow}
@@ -21,7 +20,7 @@ use Rattle.sub_agents.specs.Packets.{packet_of, ports_fit}
 use Rattle.sub_agents.specs.Counts.{flow_setup, is_issued}
 use Rattle.sub_agents.specs.Answers.{a_sample, seen_by}
 use Rattle.sub_agents.specs.Fields.{sub_agent_state, IsKept}
-use Rattle.sub_agents.specs.SubAgents.{SubAgentState, BootSoFar, StandsFor, with_event, sender_of}
+use Rattle.sub_agents.specs.SubAgents.{SubAgentState, StandsFor, with_event, sender_of}
 use Rattle.sub_agents.proofs.Lists.{read-get, some-eq}
 use Rattle.sub_agents.proofs.Keeping.{flow-kept, push-kept, in-form-at}
 use Rattle.sub_agents.proofs.Fits.{packet-kept}

@@ -1,4 +1,4 @@
-use Rattle.sflow_io.proofs.Prefixes.{prefix_longer}
+use Rattle.byte_ends.proofs.Prefixes.{prefix_longer}
 use Rattle.text_lines.proofs.PageLaws.{prints_err, prints_past}
 use Rattle.text_lines.proofs.page.Page.put.Goals as goal
 

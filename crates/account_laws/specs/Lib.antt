@@ -1,0 +1,4 @@
+pub mod Found
+pub mod Rises
+pub mod RiseRows
+pub mod Distinct

@@ -1,0 +1,13 @@
+pub mod Readings
+pub mod Histories
+pub mod Deliveries
+pub mod TrueNumbers
+pub mod Arrivals
+pub mod Accounts
+pub mod Visible
+pub mod Close
+pub mod Apparent
+pub mod Premises
+pub mod Truths
+pub mod Rows
+pub mod FarRows

@@ -1,0 +1,4 @@
+pub mod Prefixes
+pub mod Rooms
+pub mod Filled
+pub mod Unread

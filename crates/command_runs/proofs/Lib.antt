@@ -1,0 +1,11 @@
+pub mod Walked
+pub mod Ends
+pub mod ReadRuns
+pub mod CaptureRuns
+pub mod EntryWalks
+pub mod OneEnding
+pub mod EveryEnding
+pub mod CaptureEndings
+pub mod PacketWalks
+pub mod PcapEndings
+pub mod Completed

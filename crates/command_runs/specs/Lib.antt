@@ -1,0 +1,10 @@
+pub mod Acts
+pub mod Grammars
+pub mod Lines
+pub mod Tasks
+pub mod Outside
+pub mod Walks
+pub mod Statuses
+pub mod Endings
+pub mod Readings
+pub mod Runs

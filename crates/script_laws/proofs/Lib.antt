@@ -1,0 +1,6 @@
+mod Texts
+mod Parting
+mod Numbers
+mod Bytes
+mod Made
+mod Lining

@@ -1,0 +1,8 @@
+mod Numerals
+mod Splits
+mod HexBytes
+mod SkipLists
+mod Pushes
+mod Headers
+mod TextLines
+mod Passed

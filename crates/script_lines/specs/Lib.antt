@@ -1,0 +1,4 @@
+pub mod Shown
+pub mod Taken
+pub mod Fronts
+pub mod Readers

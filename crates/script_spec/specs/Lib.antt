@@ -1,0 +1,12 @@
+pub mod Words
+pub mod Parts
+pub mod Values
+pub mod Lines
+pub mod Forms
+pub mod Texts
+pub mod Rules
+pub mod Scripts
+pub mod Agents
+pub mod Steps
+pub mod Sent
+pub mod Rows

@@ -1,7 +1,0 @@
--- The places so far have others: those that are left decide.
-use Rattle.std.proofs.Common.{◌≡◌, drop}
-use Rattle.sub_agents.specs.Ids.{is_among}
-use Rattle.sub_agents.proofs.ids.place_of.Given as goal
-
-abbrev pub invariant-loop-place : goal.invariant-loop-place
-invariant-loop-place l = is_among l.source (drop l.place l.ids) ≡ is_among l.source l.ids

@@ -1,7 +1,0 @@
--- Those so far aren't 0: those that are left decide.
-use Rattle.std.proofs.Common.{◌≡◌, drop}
-use Rattle.sub_agents.specs.Faults.{has_zero_time}
-use Rattle.sub_agents.proofs.opening.has_zero_time.Given as goal
-
-abbrev pub invariant-loop-counter : goal.invariant-loop-counter
-invariant-loop-counter l = has_zero_time (drop l.counter-index l.counters) ≡ has_zero_time l.counters
