@@ -3,7 +3,7 @@
 
 ghost use Rattle.std.specs.Prelude.{◌≡◌};
 ghost use Rattle.std.specs.Process.{exit_status};
-ghost use Rattle.sflow_tool.specs.Statuses.{code_of};
+ghost use Rattle.command_runs.specs.Statuses.{code_of};
 
 use sflow_tool::{InputSource, OutputSink, Seeds, Status, run};
 use std::alloc::Global;
