@@ -2,6 +2,7 @@ pub mod Reports
 pub mod Rows
 pub mod PcapRuns
 pub mod Performed
+pub mod Headline
 pub mod Canonical
 pub mod CanonLaws
 pub mod CheckLaws

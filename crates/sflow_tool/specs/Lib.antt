@@ -5,5 +5,6 @@ pub mod Canons
 pub mod Replays
 pub mod Pcaps
 pub mod Performances
+pub mod Headlines
 pub use Rattle.byte_ends.specs.Seen
 pub use Rattle.command_words.specs.Commands

@@ -1,6 +1,11 @@
 ghost use Rattle.std.specs.Prelude.{◌≡◌, ◌⊎◌, ◌↔◌, ℕ, Bool, List, None, Some, map, string_bytes};
-ghost use Rattle.byte_ends.specs.Seen.{Rose};
+ghost use Rattle.byte_ends.specs.Seen.{Rose, Takes};
 ghost use Rattle.wire_spec.specs.Bytes.{AreBytes};
+ghost use Rattle.account_spec.specs.Histories.{SubAgent};
+ghost use Rattle.account_spec.specs.Deliveries.{Delivery};
+ghost use Rattle.account_spec.specs.Accounts.{account};
+ghost use Rattle.report_lines.specs.InterfaceLines.{report_with};
+ghost use Rattle.sflow_tool.specs.Headlines.{IsDelivered};
 ghost use Rattle.books_spec.specs.Limits.{AreLawful};
 ghost use Rattle.books_spec.specs.declared.limits.Limits.{Limits};
 ghost use Rattle.command_words.specs.Commands.{command_of};
@@ -51,6 +56,14 @@ pub fn run<S: Source, K: Sink>(
     ensures runs { (c : Command) → command_of (map string_bytes words.now) ≡ Some c
         → Performs c (outside (S.seen source.old) (K.seen sink.old))
         (outside (S.seen source.new) (K.seen sink.new)) result }
+
+    // Where a capture delivers what agents sent and the premises hold, a report that is written is that of their account.
+    ensures headline { (limits : Limits) (interfaces : Bool) (history : List SubAgent) (deliveries : List Delivery)
+        (input : List ℕ)
+        → command_of (map string_bytes words.now) ≡ Some (Command.Replay limits interfaces)
+        → AreBytes input → (S.seen source.old).told ≡ Some input → IsDelivered limits history deliveries input
+        → result ≡ Status.Done
+        → Takes (K.seen sink.old) (K.seen sink.new) (report_with interfaces (account limits history deliveries)) }
 
     // Where no count of faults rose, the input alone decides, but for want of memory.
     ensures complete { (c : Command) (input : List ℕ) (ending : Ending)

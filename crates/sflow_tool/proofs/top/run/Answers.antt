@@ -1,6 +1,8 @@
 use Rattle.std.proofs.Common.{◌≡◌, ℕ, List, Option, None, Some, map, string_bytes, sym, ap, subst, ◌∙◌}
 use Rattle.command_words.specs.declared.command.Command.{Command}
+use Rattle.command_words.specs.declared.command.Command.TheVariants.{Replay}
 use Rattle.command_words.proofs.Ranges.{limits_within}
+use Rattle.sflow_tool.proofs.Headline.{headline_of}
 use Rattle.sflow_tool.specs.Performances.{EndsBy, Performs}
 use Rattle.sflow_tool.proofs.Performed.{completes, lacks_memory, no_usage, of_this}
 use Rattle.sflow_tool.proofs.top.run.Goals as goal
@@ -38,3 +40,9 @@ returns-in-Ok-clause-complete g c = λ command input ending words are told ends 
     let same : command ≡ c.in-Ok.command = same_command command c.in-Ok.command (sym words ∙ c.in-Ok.ensures.command) in
     completes c.in-Ok.command input _ _ _ _ c.perform.ensures are told
     (subst (λ (d : Command). EndsBy d input ending) same ends) no_read no_write
+
+pub returns-in-Ok-clause-headline : goal.returns-in-Ok-clause-headline
+returns-in-Ok-clause-headline g c = λ limits interfaces history deliveries input words are told delivered done.
+    let same : Replay limits interfaces ≡ c.in-Ok.command =
+    same_command (Replay limits interfaces) c.in-Ok.command (sym words ∙ c.in-Ok.ensures.command) in
+    headline_of c.in-Ok.command limits interfaces history deliveries input _ _ _ c.perform.ensures same done are told delivered

@@ -1,0 +1,5 @@
+pub mod Lists
+pub mod Kept
+pub mod Lawful
+pub mod Shown
+pub mod Read
