@@ -1,0 +1,4 @@
+pub mod Links
+pub mod Clocks
+pub mod Receivers
+pub mod Memory
