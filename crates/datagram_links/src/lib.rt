@@ -2,7 +2,7 @@
 //! the clock of the machine. Each counts its own faults.
 //!
 //! A socket and the machine's clock tell nothing of what they give and take, so no clause ties it to the network or
-//! to the time. They are only tried by tests and programs.
+//! to the time, and no test tries them yet.
 #![tactic(auto)]
 
 mod clock;
