@@ -77,14 +77,14 @@ given_front input entries (stage.Ended v last) more left going given = absurd (g
 
 ended_by_end : (before after : Stage) → ¬ (HasEnded before) → IsStageAfter before after (Ok next.End)
     → (v : Option CaptureVersion) × (after ≡ stage.Ended v (Ok next.End))
-ended_by_end stage.Start after going (inl none) = (None, none)
+ended_by_end stage.Start after going (inl none) = absurd none.0
 ended_by_end stage.Start after going (inr some) = (Some some.0, some.1)
 ended_by_end (stage.Within v count offset) after going is = (Some v, is)
 ended_by_end (stage.Ended v last) after going is = absurd (going tt)
 
 pub ended_by_refusal : (before after : Stage) (e : ReadRefusal) → ¬ (HasEnded before) → IsStageAfter before after (Err e)
     → (v : Option CaptureVersion) × (after ≡ stage.Ended v (Err e))
-ended_by_refusal stage.Start after e going (inl none) = (None, none)
+ended_by_refusal stage.Start after e going (inl none) = (None, none.1)
 ended_by_refusal stage.Start after e going (inr some) = (Some some.0, some.1)
 ended_by_refusal (stage.Within v count offset) after e going is = (Some v, is)
 ended_by_refusal (stage.Ended v last) after e going is = absurd (going tt)

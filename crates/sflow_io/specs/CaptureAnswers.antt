@@ -2,6 +2,7 @@
 use Rattle.std.specs.Prelude.{◌≡◌, ◌≢◌, ⊤, ℕ, ◌+◌, ◌*◌, ◌^◌, ◌<◌, ◌≤◌, ◌⊎◌, List, [], ◌++◌, length, take, Option, Some, None, Result, Ok, Err}
 use Rattle.std.specs.Io.KnownBytes.{IsAtEnd}
 use Rattle.wire_spec.specs.declared.input_kind.InputKind.{InputKind}
+use Rattle.wire_spec.specs.declared.input_kind.InputKind.TheVariants.{Magic, Version}
 use Rattle.wire_spec.specs.Bytes.{BeginsWith}
 use Rattle.wire_spec.specs.Captures.{capture_header}
 use Rattle.wire_spec.specs.Heads.{AgentAddress, unknown, ipv4, ipv6}
@@ -74,10 +75,20 @@ stage_after (stage.Within v count offset) (Ok next.End) = stage.Ended (Some v) (
 stage_after (stage.Within v count offset) (Err e) = stage.Ended (Some v) (Err e)
 stage_after (stage.Ended v last) answer = stage.Ended v last
 
--- the first answer is as one behind a header, or there was none; the last answer comes again
+-- why a reader ends before it has read a version: a read failed, or the magic or a version isn't there
+abbrev pub IsOfHeader : ReadRefusal → Type 0
+IsOfHeader refusal.ReadFault = ⊤
+IsOfHeader (refusal.BadInput at kind) = ((at ≡ 0) × (kind ≡ Magic)) ⊎ ((at ≡ 4) × (kind ≡ Version))
+IsOfHeader refusal.Spent = ⊥
+
+abbrev pub RefusesAtHeader : Answer → Type 0
+RefusesAtHeader (Ok answer) = ⊥
+RefusesAtHeader (Err e) = IsOfHeader e
+
+-- the first answer is as one behind a header, or one that refuses where a header is to stand; the last answer comes again
 abbrev pub IsStageAfter : Stage → Stage → Answer → Type 0
 IsStageAfter stage.Start after answer =
-    (after ≡ stage_after stage.Start answer)
+    (RefusesAtHeader answer × (after ≡ stage_after stage.Start answer))
     ⊎ ((v : CaptureVersion) × (after ≡ stage_after (behind_header v) answer))
 IsStageAfter (stage.Within v count offset) after answer = after ≡ stage_after (stage.Within v count offset) answer
 IsStageAfter (stage.Ended v last) after answer = after ≡ stage.Ended v last

@@ -1,7 +1,7 @@
-ghost use Rattle.std.specs.Prelude.{◌≡◌, ℕ, List, Some, Err};
+ghost use Rattle.std.specs.Prelude.{◌≡◌, ℕ, List, Some, Err, IfErr};
 ghost use Rattle.byte_ends.specs.Unread.{StopsWithin, unread};
 ghost use Rattle.sflow_io.specs.declared.capture.ReadRefusal.TheVariants.{ReadFault};
-ghost use Rattle.sflow_io.specs.CaptureAnswers.{HasReadCause, ReadsHeader};
+ghost use Rattle.sflow_io.specs.CaptureAnswers.{HasReadCause, IsOfHeader, ReadsHeader};
 
 use crate::{InputKind, ReadRefusal, Source};
 use byte_ends::ReadAhead;
@@ -23,6 +23,7 @@ pub(crate) fn read_header<S: Source>(
 ) -> Result<CaptureVersion, ReadRefusal>
     ensures told { (bytes : List ℕ) → unread ahead.old (S.seen source.old) ≡ Some bytes
         → ReadsHeader bytes (unread ahead.new (S.seen source.new)) result }
+    ensures refuses { IfErr result (λ e. IsOfHeader e) }
     ensures cause { HasReadCause (S.seen source.old) (S.seen source.new) result }
     ensures stops { result ≡ Err ReadFault → StopsWithin (unread ahead.old (S.seen source.old)) (S.seen source.new).told 8 }
 {
