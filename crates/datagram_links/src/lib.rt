@@ -2,7 +2,7 @@
 //! the clock of the machine. Each counts its own faults.
 //!
 //! A socket and the machine's clock tell nothing of what they give and take, so no clause ties it to the network or
-//! to the time, and no test tries them yet.
+//! to the time. Tests try sockets over the loopback of the machine, where it has one.
 #![tactic(auto)]
 
 mod clock;
@@ -30,3 +30,6 @@ pub use system_clock::SystemClock;
 pub use udp_link::UdpLink;
 pub use udp_receiver::UdpReceiver;
 pub use wire_spec::Failed;
+
+#[cfg(test)]
+mod tests;
