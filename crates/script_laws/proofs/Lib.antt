@@ -4,3 +4,5 @@ mod Numbers
 mod Bytes
 mod Made
 mod Lining
+mod Happens
+mod Lawful

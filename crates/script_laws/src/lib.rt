@@ -1,8 +1,8 @@
-//! What holds of the lines of a script: each is said by exactly one text.
+//! What holds of the lines of a script: each is said by exactly one text, and what they make happen may happen.
 //!
 //! The functions have nothing to do: each stands for what its contract states of the definitions.
 #![tactic(auto)]
 
 mod laws;
 
-pub use laws::lines_are_written;
+pub use laws::{boots_may_happen, lines_are_written, scripts_are_lawful};
