@@ -66,8 +66,23 @@ impl Briefing {
         self.hold(sampled, protocol, header);
     }
 
-    /// Scans and counts the headers that wait, and gives them to the consumers, in order. Then none waits.
+    /// Scans and counts the headers that wait, if any, and gives them to the consumers, in order. Then none waits.
     pub fn finish(&mut self, taps: &mut Taps)
+        requires { taps.old.ended + vec_len taps.old.held < 2 ^ 64 }
+        ensures passes { Passes (λ x b y. (v : _) × (y ≡ record x { value = v }) × (⟦<dyn Tap as Tap>⟧ x.vtable).step x.value b v)
+            (λ x. (⟦<dyn Tap as Tap>⟧ x.vtable).ended x.value) self.old taps.old.held.items
+            [] self.new taps.new.held.items }
+        ensures pending { self.new.pending ≡ [] }
+        ensures ended { taps.new.ended + vec_len taps.new.held ≡ taps.old.ended + vec_len taps.old.held }
+    {
+        if self.batch.len() > 0 {
+            self.send(taps);
+        }
+    }
+
+    // Scans and counts the headers that wait, and gives them to the consumers, in order.
+    #[inline(never)]
+    fn send(&mut self, taps: &mut Taps)
         requires { taps.old.ended + vec_len taps.old.held < 2 ^ 64 }
         ensures passes { Passes (λ x b y. (v : _) × (y ≡ record x { value = v }) × (⟦<dyn Tap as Tap>⟧ x.vtable).step x.value b v)
             (λ x. (⟦<dyn Tap as Tap>⟧ x.vtable).ended x.value) self.old taps.old.held.items
@@ -92,7 +107,7 @@ impl Briefing {
         ensures ended { taps.new.ended + vec_len taps.new.held ≡ taps.old.ended + vec_len taps.old.held }
     {
         if self.batch.len() == 16 {
-            self.finish(taps);
+            self.send(taps);
         }
     }
 

@@ -2,7 +2,7 @@ use Rattle.std.proofs.Common.{◌≡◌, ◌++◌, length, take, map, ap, ap₂,
 use Rattle.sample_taps.specs.Briefs.{briefs_with, facts_in}
 use Rattle.sample_taps.specs.Classes.{with_headers}
 use Rattle.sample_taps.proofs.Waiting.{as_many}
-use Rattle.sample_taps.proofs.briefing.Briefing.finish.Goals as goal
+use Rattle.sample_taps.proofs.briefing.Briefing.send.Goals as goal
 
 pub returns-clause-passes : goal.returns-clause-passes
 returns-clause-passes g c =
