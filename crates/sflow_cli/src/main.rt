@@ -5,7 +5,7 @@ ghost use Rattle.std.specs.Prelude.{◌≡◌};
 ghost use Rattle.std.specs.Process.{exit_status};
 ghost use Rattle.command_runs.specs.Statuses.{code_of};
 
-use sflow_tool::{InputSource, OutputSink, Seeds, Status, run};
+use sflow_tool::{InputSource, OutputSink, Seeds, Status, SystemClock, UdpLink, run};
 use std::alloc::Global;
 use std::env::Env;
 use std::hash::RandomState;
@@ -105,6 +105,7 @@ fn main(rt: HostRuntime) -> ExitCode {
     };
     let mut source = InputSource::new(rt);
     let mut sink = OutputSink::new(rt);
-    let status = run(rt.alloc(), &words, seeds, &mut source, &mut sink);
+    let mut link = UdpLink::new(rt, SystemClock::new(rt));
+    let status = run(rt.alloc(), &words, seeds, &mut source, &mut sink, &mut link);
     end_run(&rt, &status)
 }

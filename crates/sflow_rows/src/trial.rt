@@ -1,6 +1,6 @@
 //! A row's runs over the memory forms of the outside.
 use crate::row::Row;
-use sflow_tool::{MemorySink, MemorySource, Seeds, Source, Status, run};
+use sflow_tool::{MemoryLink, MemorySink, MemorySource, Seeds, Source, Status, run};
 use std::alloc::{AllocError, Global};
 
 // The piece that a read moves where the row names none.
@@ -39,7 +39,8 @@ fn difference_in_pieces(
     let write_fails = Vec::from_slice(alloc, &row.write_fails)?;
     let mut source = MemorySource::new(bytes, piece.max(1), read_fails);
     let mut sink = MemorySink::new(alloc, row.room, write_fails);
-    let status = run(alloc, &row.words, seeds, &mut source, &mut sink);
+    let mut link = MemoryLink::new(alloc, Vec::new(alloc), Vec::new(alloc));
+    let status = run(alloc, &row.words, seeds, &mut source, &mut sink, &mut link);
     let status = shown(alloc, &status)?;
     if status.as_str() != row.status.as_str() {
         return Ok(Some(format!(in alloc; "status {status}")?));

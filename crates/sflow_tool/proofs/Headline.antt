@@ -36,6 +36,7 @@ use Rattle.command_runs.specs.declared.status.Status.{Status}
 use Rattle.command_runs.specs.declared.status.Status.TheVariants.{Done}
 use Rattle.sflow_tool.specs.Headlines.{IsDelivered}
 use Rattle.sflow_tool.specs.Performances.{Performs}
+use Rattle.sflow_tool.specs.Surroundings.{Surroundings}
 use Rattle.sflow_tool.specs.Replays.{entry_item, items_in, replay_act, report_of}
 
 -- ---- the collector reads what was sent
@@ -120,12 +121,12 @@ headline l interfaces history deliveries input before after ran are told d =
 
 -- of the command that the words name
 pub headline_of : (c : Command) (l : Limits) (interfaces : Bool) (history : List SubAgent) (deliveries : List Delivery)
-    (input : List ℕ) (before after : Outside) (status : Status) → Performs c before after status
-    → Replay l interfaces ≡ c → status ≡ Done → AreBytes input → before.source.told ≡ Some input
+    (input : List ℕ) (before after : Surroundings) (status : Status) → Performs c before after status
+    → Replay l interfaces ≡ c → status ≡ Done → AreBytes input → before.ends.source.told ≡ Some input
     → IsDelivered l history deliveries input
-    → Takes before.sink after.sink (report_with interfaces (account l history deliveries))
+    → Takes before.ends.sink after.ends.sink (report_with interfaces (account l history deliveries))
 headline_of c l interfaces history deliveries input before after status performed same done are told d =
     let ran : Performs (Replay l interfaces) before after status =
     subst (λ (e : Command). Performs e before after status) (sym same) performed in
-    headline l interfaces history deliveries input before after
-    (subst (λ (s : Status). Runs captures (replay_act l interfaces) before after s) done ran) are told d
+    headline l interfaces history deliveries input before.ends after.ends
+    (subst (λ (s : Status). Runs captures (replay_act l interfaces) before.ends after.ends s) done ran.ran) are told d

@@ -4,6 +4,7 @@ pub mod Checks
 pub mod Canons
 pub mod Replays
 pub mod Pcaps
+pub mod Surroundings
 pub mod Performances
 pub mod Headlines
 pub use Rattle.byte_ends.specs.Seen

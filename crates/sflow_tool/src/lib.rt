@@ -14,6 +14,7 @@ mod top;
 
 pub use command_runs::{Line, Status};
 pub use command_words::Command;
+pub use datagram_links::{Link, LinkItem, MemoryLink, SystemClock, UdpLink};
 pub use flow_collector::{Limits, Seeds};
 pub use laws::{
     canon_is_final, canon_pads_with_zeros, canonical_bytes_are_exact, check_lines_are_exact,

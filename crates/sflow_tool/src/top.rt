@@ -9,7 +9,7 @@ ghost use Rattle.sflow_tool.specs.Headlines.{IsDelivered};
 ghost use Rattle.books_spec.specs.Limits.{AreLawful};
 ghost use Rattle.books_spec.specs.declared.limits.Limits.{Limits};
 ghost use Rattle.command_words.specs.Commands.{command_of};
-ghost use Rattle.command_runs.specs.Outside.{outside};
+ghost use Rattle.sflow_tool.specs.Surroundings.{surroundings};
 ghost use Rattle.sflow_tool.specs.Performances.{EndsBy, Performs};
 ghost use Rattle.command_words.specs.declared.command.Command.{Command};
 ghost use Rattle.command_runs.specs.declared.status.Status.{Status as Ending};
@@ -21,11 +21,13 @@ use crate::replay::replay;
 use crate::show::show;
 use command_runs::Status;
 use command_words::{Command as Asked, WordsRefusal, read_words};
+use datagram_links::Link;
 use flow_collector::Seeds;
 use sflow_io::{Sink, Source};
 use std::alloc::Global;
 
-/// Does what the words say, from the source to the sink. The words are without the program's name.
+/// Does what the words say, from the source to the sink. The words are without the program's name. No command uses the link
+/// yet.
 ///
 /// `replay` reads a capture and writes its report: a line for each stream and each source, one for the first entry
 /// that is no datagram, and the line of totals. Its options are the limits of the collector, `--interfaces` asks for a line for
@@ -41,21 +43,22 @@ use std::alloc::Global;
 /// without its end item, and nothing is written where no payload was taken. `--count` asks for one line in its place,
 /// which counts the packets by what became of them.
 /// All memory is taken before the first byte is read or written.
-pub fn run<S: Source, K: Sink>(
+pub fn run<S: Source, K: Sink, L: Link>(
     alloc: Global,
     words: &[String],
     seeds: Seeds,
     source: &mut S,
     sink: &mut K,
+    link: &mut L,
 ) -> Status
     // The words name a command, or nothing is touched.
     ensures usage { (result ≡ Status.Usage) ↔ (command_of (map string_bytes words.now) ≡ None) }
-    ensures untouched { result ≡ Status.Usage → (source.new ≡ source.old) × (sink.new ≡ sink.old) }
+    ensures untouched { result ≡ Status.Usage → (source.new ≡ source.old) × (sink.new ≡ sink.old) × (link.new ≡ link.old) }
 
     // What the command that they name does.
     ensures runs { (c : Command) → command_of (map string_bytes words.now) ≡ Some c
-        → Performs c (outside (S.seen source.old) (K.seen sink.old))
-        (outside (S.seen source.new) (K.seen sink.new)) result }
+        → Performs c (surroundings (S.seen source.old) (K.seen sink.old) (L.seen link.old))
+        (surroundings (S.seen source.new) (K.seen sink.new) (L.seen link.new)) result }
 
     // Where a capture delivers what agents sent and the premises hold, a report that is written is that of their account.
     ensures headline { (limits : Limits) (interfaces : Bool) (history : List SubAgent) (deliveries : List Delivery)
@@ -71,26 +74,28 @@ pub fn run<S: Source, K: Sink>(
         → AreBytes input → (S.seen source.old).told ≡ Some input → EndsBy c input ending
         → ¬ Rose (S.seen source.old).faults (S.seen source.new).faults
         → ¬ Rose (K.seen sink.old).faults (K.seen sink.new).faults
+        → ¬ Rose (L.seen link.old).faults (L.seen link.new).faults
         → (result ≡ ending) ⊎ (result ≡ Status.Memory) }
 {
     match read_words(alloc, words) {
-        Ok(command) => perform(alloc, command, seeds, source, sink),
+        Ok(command) => perform(alloc, command, seeds, source, sink, link),
         Err(WordsRefusal::Usage) => Status::Usage,
         Err(WordsRefusal::Memory) => Status::Memory,
     }
 }
 
 // Does what the command says.
-fn perform<S: Source, K: Sink>(
+fn perform<S: Source, K: Sink, L: Link>(
     alloc: Global,
     command: Asked,
     seeds: Seeds,
     source: &mut S,
     sink: &mut K,
+    link: &mut L,
 ) -> Status
     requires { (limits : Limits) (interfaces : Bool) → command ≡ Asked.Replay limits interfaces → AreLawful limits }
-    ensures { Performs command (outside (S.seen source.old) (K.seen sink.old))
-        (outside (S.seen source.new) (K.seen sink.new)) result }
+    ensures { Performs command (surroundings (S.seen source.old) (K.seen sink.old) (L.seen link.old))
+        (surroundings (S.seen source.new) (K.seen sink.new) (L.seen link.new)) result }
 {
     match command {
         Asked::Replay { limits, interfaces } => {

@@ -36,10 +36,10 @@ pub returns-in-Err-Memory-clause-runs : goal.returns-in-Err-Memory-clause-runs
 returns-in-Err-Memory-clause-runs g c = λ command words. lacks_memory command _
 
 pub returns-in-Ok-clause-complete : goal.returns-in-Ok-clause-complete
-returns-in-Ok-clause-complete g c = λ command input ending words are told ends no_read no_write.
+returns-in-Ok-clause-complete g c = λ command input ending words are told ends no_read no_write no_link.
     let same : command ≡ c.in-Ok.command = same_command command c.in-Ok.command (sym words ∙ c.in-Ok.ensures.command) in
     completes c.in-Ok.command input _ _ _ _ c.perform.ensures are told
-    (subst (λ (d : Command). EndsBy d input ending) same ends) no_read no_write
+    (subst (λ (d : Command). EndsBy d input ending) same ends) no_read no_write no_link
 
 pub returns-in-Ok-clause-headline : goal.returns-in-Ok-clause-headline
 returns-in-Ok-clause-headline g c = λ limits interfaces history deliveries input words are told delivered done.
