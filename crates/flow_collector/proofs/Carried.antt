@@ -1,8 +1,8 @@
 -- The first record of interface counters of a counters sample.
-use Rattle.std.proofs.Common.{◌≡◌, ◌∙◌, ℕ, zero, suc, ◌+◌, ◌≤◌, ◌<◌, ◌^◌, nat_lt, nat_le, cond, length, length-append, ℤ, arith, Bool, true, false, Option, Some, None, List, [], ◌∷◌, refl, sym, ap, subst, true≢false, ◌||◌, if◌then◌else◌}
+use Rattle.std.proofs.Common.{◌≡◌, ◌∙◌, ℕ, ◌<◌, nat_lt, cond, arith, Bool, true, false, Option, Some, None, List, [], ◌∷◌, refl, sym, ap, subst, true≢false, ◌||◌, if◌then◌else◌}
 use Rattle.std.specs.Prelude.{◌==◌, slice_get}
-use Rattle.std.proofs.lemmas.Bool.{lt-ltb, leb-true, leb-false}
-use Rattle.wire_spec.specs.Shapes.{Tree, known, other, Trees, none, ◌&◌}
+use Rattle.std.proofs.lemmas.Bool.{lt-ltb}
+use Rattle.wire_spec.specs.Shapes.{Tree, known, Trees, none}
 use Rattle.data_format.specs.declared.heads.CountersHead.{CountersHead}
 use Rattle.data_format.specs.declared.heads.Form.{Form}
 use Rattle.data_format.specs.declared.heads.Form.TheVariants.{Compact, Expanded}
@@ -16,7 +16,7 @@ use Rattle.datagram_core.specs.declared.records.RecordKind.TheVariants as kinds
 use Rattle.datagram_core.specs.declared.sample.Sample.{Sample}
 use Rattle.datagram_core.specs.declared.sample.Sample.TheVariants as samples
 use Rattle.datagram_core.specs.Kinds.{HasKind}
-use Rattle.datagram_core.specs.Records.{record_tree, table_of, IsRecordOf, records_of}
+use Rattle.datagram_core.specs.Records.{record_tree, IsRecordOf, records_of}
 use Rattle.datagram_core.specs.SampleHeads.{AreCountersIn}
 use Rattle.datagram_core.specs.Samples.{sample_tree, IsSampleOf}
 use Rattle.datagram_core.specs.Tables.{counter_records_read, samples_read}

@@ -33,7 +33,7 @@ use Rattle.collector_tables.proofs.Tables.{each-at}
 use Rattle.if_ledger.specs.Boots.{runs_before}
 use Rattle.if_ledger.specs.Tables.{Ledgers}
 use Rattle.if_ledger.proofs.Marked.{same-booked, same-count}
-use Rattle.flow_collector.specs.Collectors.{CollectorState, StandsFor}
+use Rattle.flow_collector.specs.Collectors.{BooksState, StandsFor}
 use Rattle.flow_collector.specs.Interfaces.{run_in, IsReadyFor, AreEnteredFor}
 use Rattle.flow_collector.specs.Items.{sample_with}
 use Rattle.flow_collector.specs.Steps.{with_sample, Enters, boot_number}
@@ -76,7 +76,7 @@ abbrev pub reading_at : TakenAt → ℕ → SampleReading → PlacedReading
 reading_at t index r = record { place = record { datagram = t.receipt.number; index = index }; reading = r }
 
 -- the step, for what it is entered into
-pub of-limits : (s : CollectorState) (l : Limits) (items : List Item) (d : Datagram) (t : TakenAt) (index : ℕ)
+pub of-limits : (s : BooksState) (l : Limits) (items : List Item) (d : Datagram) (t : TakenAt) (index : ℕ)
     (key : SourceKey) (reading : SampleReading) (now : List (SourceKey × SourceRecord)) (entered : Option EnteredAt)
     → length d.samples ≡ index
     → EnterStep s.sources.entries now key (reading_at t index reading) t.boot entered s.sources.limit s.limits.sample_width
@@ -96,7 +96,7 @@ of-limits s l items d t index key reading now entered same step st =
 some-one : (n : ℕ) (A : Type 0) → n ≡ n + 1 → A
 some-one n A e = absurd (omega (arith, e))
 
-is-unlisted : (limit : ℕ) (arrived : List Source) (source : Source)
+pub is-unlisted : (limit : ℕ) (arrived : List Source) (source : Source)
     → unlisted same_source limit (source ∷ arrived) ≡ unlisted same_source limit arrived + 1 → IsUnlisted limit arrived source
 is-unlisted limit arrived source one = go (among same_source (listed same_source limit arrived) source) refl
   where
@@ -135,7 +135,7 @@ pub record Place (l : Limits) (items : List Item) (d : Datagram) (key : SourceKe
       (source_in (listed_streams l (Got d ∷ items)) key) ≡ false
       → AreEmpty (placed_boots l (source_in (listed_streams l (Got d ∷ items)) key) (Got d ∷ items))
 
-place-of : (l : Limits) (items : List Item) (d : Datagram) (t : TakenAt) (key : SourceKey) → key.stream ≡ t.place
+pub place-of : (l : Limits) (items : List Item) (d : Datagram) (t : TakenAt) (key : SourceKey) → key.stream ≡ t.place
     → Enters l items t d → Place l items d key
 place-of l items d t key here enters =
     let streams : List Stream = listed_streams l (Got d ∷ items) in
@@ -155,7 +155,7 @@ place-of l items d t key here enters =
     }
 
 -- the same for what the step needs
-table-stands : (l : Limits) (items : List Item) (d : Datagram) (t : TakenAt) (key : SourceKey) (r : PlacedReading)
+pub table-stands : (l : Limits) (items : List Item) (d : Datagram) (t : TakenAt) (key : SourceKey) (r : PlacedReading)
     (was now : List (SourceKey × SourceRecord)) (entered : Option EnteredAt) → t.boot ≡ boot_number l items d → Place l items d key
     → EnterStep was now key r t.boot entered l.sources l.sample_width
     → SourcesStand (listed_streams l (Got d ∷ items)) l.sources l.sample_width was (sources_of l (Got d ∷ items))
@@ -169,7 +169,7 @@ table-stands l items d t key r was now entered boot here step st =
     here.own.current here.own.closed here.placed here.own.boots_are (here.own.number_is ∙ sym boot)
     (λ none. subst P here.own.boots_are (here.fresh none)) st
 
-table-answers : (l : Limits) (items : List Item) (d : Datagram) (t : TakenAt) (key : SourceKey) (r : PlacedReading)
+pub table-answers : (l : Limits) (items : List Item) (d : Datagram) (t : TakenAt) (key : SourceKey) (r : PlacedReading)
     (was now : List (SourceKey × SourceRecord)) (entered : Option EnteredAt) → t.boot ≡ boot_number l items d
     → (here : Place l items d key) → EnterStep was now key r t.boot entered l.sources l.sample_width
     → SourcesStand (listed_streams l (Got d ∷ items)) l.sources l.sample_width was (sources_of l (Got d ∷ items))
@@ -336,7 +336,7 @@ known l items d t key reading carried was now entered at_place enters step st =
 
 -- ---- the collector, one sample on
 
-pub enters-stands : (s : CollectorState) (l : Limits) (items : List Item) (d : Datagram) (t : TakenAt) (index : ℕ)
+pub enters-stands : (s : BooksState) (l : Limits) (items : List Item) (d : Datagram) (t : TakenAt) (index : ℕ)
     (key : SourceKey) (reading : SampleReading) (carried : Option InterfaceCounters) (sources : Table SourceKey SourceRecord)
     (interfaces : Ledgers) (entered : Option EnteredAt) (unlisted_now : ℕ)
     → key.stream ≡ t.place → length d.samples ≡ index → Enters l items t d
@@ -369,7 +369,7 @@ enters-stands s l items d t index key reading carried sources interfaces entered
     (subst U here.name (now.counted streams arrived (λ x. placed_boots l x (Got d ∷ items)) here.placed st.sources_stand)) st
 
 -- and the ledgers of interfaces may be entered
-pub enters-ready : (s : CollectorState) (l : Limits) (items : List Item) (d : Datagram) (t : TakenAt) (index : ℕ)
+pub enters-ready : (s : BooksState) (l : Limits) (items : List Item) (d : Datagram) (t : TakenAt) (index : ℕ)
     (key : SourceKey) (reading : SampleReading) (sources : List (SourceKey × SourceRecord)) (entered : Option EnteredAt)
     → key.stream ≡ t.place → length d.samples ≡ index → Enters l items t d
     → EnterStep s.sources.entries sources key (reading_at t index reading) t.boot entered s.sources.limit

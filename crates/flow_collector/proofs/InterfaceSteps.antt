@@ -1,5 +1,5 @@
 -- One sample more, as the ledgers of interfaces take it.
-use Rattle.std.proofs.Common.{◌≡◌, ℕ, zero, suc, ◌+◌, ◌≤◌, ◌<◌, ◌^◌, Bool, true, false, cond, Option, Some, None, List, [], ◌∷◌, ◌++◌, length, map, refl, sym, ap, subst, ◌∙◌, arith}
+use Rattle.std.proofs.Common.{◌≡◌, ℕ, zero, suc, ◌≤◌, ◌<◌, ◌^◌, false, cond, Option, Some, None, List, [], ◌∷◌, ◌++◌, length, refl, sym, ap, subst, ◌∙◌, arith}
 use Rattle.std.specs.Prelude.{slice_get, slice_set}
 use Rattle.std.specs.List.{sum_by}
 use Rattle.std.proofs.lemmas.List.Sums.{sum_by-cons}
@@ -8,9 +8,8 @@ use Rattle.count_spec.specs.declared.stretch_place.StretchPlace.{StretchPlace}
 use Rattle.count_spec.specs.declared.stretch_place.StretchPlace.TheVariants.{Current, Next, Stale}
 use Rattle.books_spec.specs.Generations.{generation_place, generations, booked}
 use Rattle.books_spec.specs.PlacedSamples.{InterfaceSample}
-use Rattle.books_spec.specs.InterfaceRise.{InterfaceCounters}
 use Rattle.books_spec.specs.Items.{Source}
-use Rattle.books_spec.specs.Listing.{same_source, among, listed, first_arrivals, AreDistinct}
+use Rattle.books_spec.specs.Listing.{same_source, among, listed, first_arrivals}
 use Rattle.books_spec.specs.WholeBooks.{place_seen, mark_seen}
 use Rattle.books_spec.proofs.Generations.{generations-length}
 use Rattle.books_spec.proofs.Keys.{source-same}
@@ -23,9 +22,9 @@ use Rattle.if_ledger.specs.Ledgers.{IfState, StandsFor}
 use Rattle.if_ledger.specs.Boots.{runs_before, StandsForBoots, added, TakesAny}
 use Rattle.if_ledger.proofs.Runs.{run-before, opened-stands, passed-stands, entered-stands}
 use Rattle.if_ledger.proofs.Shown.{samples-few}
-use Rattle.flow_collector.specs.Interfaces.{ArePaired, run_in, IsReady, IsReadyFor, AreListed, AreEntered, AreEnteredFor}
+use Rattle.flow_collector.specs.Interfaces.{ArePaired, run_in, IsReady, IsReadyFor, AreEntered, AreEnteredFor}
 use Rattle.flow_collector.proofs.Entering.{with_one, after_one}
-use Rattle.flow_collector.proofs.Paired.{at-within, one-at, paired-length, paired-at, paired-push, paired-map, paired-others, paired-set, IsPlacedIn, there, last, place-in}
+use Rattle.flow_collector.proofs.Paired.{at-within, one-at, paired-length, paired-at, paired-push, paired-others, paired-set, IsPlacedIn, there, last, place-in}
 
 -- a new ledger stands for boots without a sample
 pub empty-stands : (width : ℕ) (s : IfState) (boots : List (List InterfaceSample)) → s.run ≡ 0 → StandsFor s [] → AreEmpty boots

@@ -17,7 +17,7 @@ use Rattle.books_spec.specs.declared.taken.Taken.TheVariants.{First}
 use Rattle.books_spec.proofs.Keys.{stream-same, and-split}
 use Rattle.books_spec.specs.declared.limits.Limits.{Limits}
 use Rattle.books_spec.specs.Limits.{is_within, refused_limit}
-use Rattle.flow_collector.specs.Collectors.{CollectorState, StandsFor, AreFew, AreWithin}
+use Rattle.flow_collector.specs.Collectors.{BooksState, StandsFor, AreFew, AreWithin}
 use Rattle.flow_collector.proofs.Entering.{first-in, stale-first}
 use Rattle.flow_collector.proofs.Boots.{source-boots-length}
 use Rattle.flow_collector.proofs.Counts.{entered-few, sources-few}
@@ -54,11 +54,11 @@ within-ranges l e =
 
 -- ---- no count overflows
 
-pub entries-are : (s : CollectorState) (l : Limits) (items : List Item) → StandsFor s l items
+pub entries-are : (s : BooksState) (l : Limits) (items : List Item) → StandsFor s l items
     → s.totals.entries ≡ length items
 entries-are s l items st = ap (λ t. t.entries) st.totals_are
 
-pub malformed-few : (s : CollectorState) (l : Limits) (items : List Item) → StandsFor s l items
+pub malformed-few : (s : BooksState) (l : Limits) (items : List Item) → StandsFor s l items
     → s.totals.malformed ≤ length items
 malformed-few s l items st =
     let is : s.totals.malformed ≡ count_by is_malformed items = ap (λ t. t.malformed) st.totals_are in
@@ -70,7 +70,7 @@ streams-few [] = omega arith
 streams-few (Got d ∷ before) = let later = streams-few before in omega (arith, later)
 streams-few (Malformed f ∷ before) = let later = streams-few before in omega (arith, later)
 
-pub unlisted-few : (s : CollectorState) (l : Limits) (items : List Item) → StandsFor s l items
+pub unlisted-few : (s : BooksState) (l : Limits) (items : List Item) → StandsFor s l items
     → s.totals.unlisted ≤ length items
 unlisted-few s l items st =
     let is : s.totals.unlisted ≡ unlisted same_stream l.streams (streams_of items) = ap (λ t. t.unlisted) st.totals_are in
@@ -79,7 +79,7 @@ unlisted-few s l items st =
     let all = streams-few items in
     omega (arith, is, few, all)
 
-pub unlisted_samples-few : (s : CollectorState) (l : Limits) (items : List Item) → StandsFor s l items
+pub unlisted_samples-few : (s : BooksState) (l : Limits) (items : List Item) → StandsFor s l items
     → AreFew items → s.totals.unlisted_samples ≤ 8191 * length items
 unlisted_samples-few s l items st few_samples =
     let is : s.totals.unlisted_samples ≡ unlisted same_source l.sources (sources_of l items) =
@@ -89,7 +89,7 @@ unlisted_samples-few s l items st few_samples =
     let all = sources-few l items few_samples in
     omega (arith, is, few, all)
 
-pub other-few : (s : CollectorState) (l : Limits) (items : List Item) → StandsFor s l items
+pub other-few : (s : BooksState) (l : Limits) (items : List Item) → StandsFor s l items
     → AreFew items → s.totals.other ≤ 8191 * length items
 other-few s l items st few_samples =
     let is : s.totals.other ≡ count_by (λ (e : Entered). is_other e.sample) (entered l items) =

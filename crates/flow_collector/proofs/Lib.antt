@@ -12,6 +12,12 @@ pub mod InterfaceSteps
 pub mod Carried
 pub mod Kept
 pub mod Enters
+pub mod Firsts
+pub mod HeaderRecords
+pub mod Fed
+pub mod Feeds
+pub mod Few
+pub mod Gathering
 pub mod SoFar
 pub mod Takes
 pub mod Shows

@@ -1,11 +1,11 @@
 -- The samples of a source as its ledger and as its interface counters see them: the same places and marks.
-use Rattle.std.proofs.Common.{◌≡◌, ◌∙◌, ℕ, Bool, true, false, cond, Option, Some, None, List, [], ◌∷◌, length, map, refl, sym, ap}
+use Rattle.std.proofs.Common.{◌≡◌, ◌∙◌, Bool, true, false, cond, Some, None, List, [], ◌∷◌, length, map, refl, sym, ap}
 use Rattle.std.specs.List.{filter_map, cons_option, sum_by}
 use Rattle.books_spec.specs.declared.limits.Limits.{Limits}
 use Rattle.books_spec.specs.Items.{SourceId, Sample, Of, Carrying, Other, Datagram, Item, Source}
 use Rattle.books_spec.specs.Listing.{same_stream, same_source, same_id, among, first_arrivals}
 use Rattle.books_spec.specs.Books.{listed_streams, reading_of, stream_boots, sources_of}
-use Rattle.books_spec.specs.SourceViews.{PlacedReading, PlacedMark, mark_at}
+use Rattle.books_spec.specs.SourceViews.{PlacedReading, mark_at}
 use Rattle.books_spec.specs.PlacedSamples.{PlacedSample, first_placed, read_at, placed_reading_of, placed_readings, placed_boots, InterfaceSample, seen_at, interface_sample_at, interface_samples, interface_boots}
 use Rattle.books_spec.proofs.Keys.{source-same}
 use Rattle.books_spec.proofs.Seen.{read_mark, seen_mark}

@@ -29,7 +29,7 @@ use Rattle.collector_tables.proofs.Tables.{each-map, each-renamed, keys-renamed}
 use Rattle.if_ledger.specs.Ledgers.{IfState}
 use Rattle.if_ledger.specs.Tables.{Ledgers}
 use Rattle.if_ledger.specs.Boots.{StandsForBoots}
-use Rattle.flow_collector.specs.Collectors.{CollectorState, StandsFor}
+use Rattle.flow_collector.specs.Collectors.{BooksState, StandsFor}
 use Rattle.flow_collector.specs.Interfaces.{ArePaired}
 use Rattle.flow_collector.specs.Items.{sample_with}
 use Rattle.flow_collector.specs.Steps.{is_first, is_unlisted, with_samples, with_sample, number_in}
@@ -43,7 +43,7 @@ use Rattle.flow_collector.proofs.Steps.{streams-same, streams-malformed, with_fa
 
 -- ---- a fault
 
-pub reject-stands : (s : CollectorState) (l : Limits) (items : List Item) (f : Fault) (first : Option FirstFault)
+pub reject-stands : (s : BooksState) (l : Limits) (items : List Item) (f : Fault) (first : Option FirstFault)
     → first ≡ fault_after s.totals.first_fault s.totals.entries (Malformed f) → StandsFor s l items
     → StandsFor (record s { totals = record (with_fault s.totals f) { first_fault = first } }) l (Malformed f ∷ items)
 reject-stands s l items f first is st = record {
@@ -60,7 +60,7 @@ reject-stands s l items f first is st = record {
 
 -- ---- a datagram, as though it had no samples
 
-pub head-stands : (s : CollectorState) (l : Limits) (items : List Item) (d : Datagram)
+pub head-stands : (s : BooksState) (l : Limits) (items : List Item) (d : Datagram)
     (streams : Table StreamKey StreamState) (t : Taken) (unlisted_now : ℕ) → t ≡ taken_now l items (Got d)
     → unlisted_now ≡ s.totals.unlisted + cond (is_unlisted t) 1 0
     → streams.limit ≡ s.streams.limit → StreamsStand l streams.entries (Got d ∷ items) → StandsFor s l items
@@ -109,7 +109,7 @@ head-stands s l items d streams t unlisted_now answer count limit now st =
     }
 
 -- a datagram whose samples aren't entered
-pub not_first-stands : (s : CollectorState) (l : Limits) (items : List Item) (d : Datagram)
+pub not_first-stands : (s : BooksState) (l : Limits) (items : List Item) (d : Datagram)
     → is_first (taken_now l items (Got d)) ≡ false → StandsFor s l (Got (with_samples d []) ∷ items)
     → StandsFor s l (Got d ∷ items)
 not_first-stands s l items d not st =
@@ -187,7 +187,7 @@ fault-same l items d xs = go (first_fault items)
     go None = refl
     go (Some x) = refl
 
-pub other-stands : (s : CollectorState) (l : Limits) (items : List Item) (d : Datagram)
+pub other-stands : (s : BooksState) (l : Limits) (items : List Item) (d : Datagram)
     → taken_now l items (Got d) ≡ First → StandsFor s l (Got d ∷ items)
     → StandsFor (record s { totals = with_other s.totals }) l (Got (with_sample d Other) ∷ items)
 other-stands s l items d first st =
@@ -243,7 +243,7 @@ other-not id r (Some c) = refl
 abbrev pub seen_of : Datagram → ℤ → SampleReading → Option InterfaceCounters → InterfaceSample
 seen_of d n r carried = seen_at (record { datagram = n; index = length d.samples }) r carried
 
-pub of-stands : (s : CollectorState) (l : Limits) (items : List Item) (d : Datagram) (id : SourceId) (r : SampleReading)
+pub of-stands : (s : BooksState) (l : Limits) (items : List Item) (d : Datagram) (id : SourceId) (r : SampleReading)
     (carried : Option InterfaceCounters) (n : ℤ)
     (sources : Table SourceKey SourceRecord) (interfaces : Ledgers) (found : Bool) (unlisted_now : ℕ)
     → taken_now l items (Got d) ≡ First

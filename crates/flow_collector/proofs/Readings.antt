@@ -1,14 +1,13 @@
 -- What a sample shows is what stands in its value, and how many readings there are.
-use Rattle.std.proofs.Common.{◌≡◌, ℕ, suc, ◌+◌, ◌*◌, ◌/◌, ◌%◌, ◌^◌, true, Option, List, [], ◌∷◌, length, map, refl, sym, ap, subst, ◌∙◌, arith}
+use Rattle.std.proofs.Common.{◌≡◌, ℕ, suc, true, Option, List, [], ◌∷◌, length, map, refl, sym, ap, subst, ◌∙◌, arith}
 use Rattle.std.specs.List.{sum_by, count_by}
 use Rattle.std.proofs.lemmas.List.Sums.{sum_by-cons}
-use Rattle.wire_spec.specs.Heads.{AgentAddress, unknown, ipv4, ipv6, address_tree}
+use Rattle.wire_spec.specs.Heads.{AgentAddress}
 use Rattle.data_format.specs.declared.heads.Form.{Form}
 use Rattle.data_format.specs.declared.heads.Form.TheVariants.{Compact, Expanded}
 use Rattle.data_format.specs.declared.heads.FlowHead.{FlowHead}
 use Rattle.data_format.specs.declared.heads.CountersHead.{CountersHead}
 use Rattle.data_format.specs.declared.source.SourceId.{SourceId}
-use Rattle.data_format.specs.Compact.{source_word, source_of, IsCompactSource}
 use Rattle.data_format.specs.Trees.{frame_tree, frame_trees}
 use Rattle.data_format.specs.Views.{FrameView}
 use Rattle.data_format.proofs.Values.{source_of-word, address_in-tree}

@@ -9,7 +9,7 @@ use Rattle.stream_books.specs.Receipts.{receipt_at}
 use Rattle.collector_tables.specs.declared.streams.TakenAt.{TakenAt}
 use Rattle.books_spec.specs.declared.limits.Limits.{Limits}
 use Rattle.flow_collector.specs.Items.{sample_in, samples_in}
-use Rattle.flow_collector.specs.Collectors.{CollectorState, StandsFor}
+use Rattle.flow_collector.specs.Collectors.{BooksState, StandsFor}
 use Rattle.flow_collector.specs.Steps.{with_samples, with_sample, number_in, IsFound, Enters, Midway}
 use Rattle.flow_collector.proofs.Boots.{boots-same}
 use Rattle.flow_collector.proofs.Entering.{place-same, taken-same}
@@ -18,14 +18,14 @@ use Rattle.flow_collector.proofs.Entering.{place-same, taken-same}
 abbrev pub samples_of : List FrameView → List Sample
 samples_of frames = samples_in (frame_trees samples_read frames)
 
-pub record SoFar (old now : CollectorState) (t : TakenAt) (index : ℕ) (all left : List FrameView) : Type 0 where
+pub record SoFar (old now : BooksState) (t : TakenAt) (index : ℕ) (all left : List FrameView) : Type 0 where
   pub done : List Sample
   pub count : length done ≡ index
   pub parts : samples_of all ≡ done ++ samples_of left
   pub stands : (l : Limits) (items : List Item) (d : Datagram) → Enters l items t d
       → StandsFor old l (Got (with_samples d []) ∷ items) → StandsFor now l (Got (with_samples d done) ∷ items)
 
-pub begins : (s : CollectorState) (t : TakenAt) (all : List FrameView) → SoFar s s t 0 all all
+abbrev pub begins : (s : BooksState) (t : TakenAt) (all : List FrameView) → SoFar s s t 0 all all
 begins s t all = record {
   done = [];
   count = refl;
@@ -56,7 +56,7 @@ enters-with l items t d xs enters = record {
 }
 
 -- one sample more
-pub goes-on : (old now new : CollectorState) (t : TakenAt) (index : ℕ) (all left rest : List FrameView) (f : FrameView)
+abbrev pub goes-on : (old now new : BooksState) (t : TakenAt) (index : ℕ) (all left rest : List FrameView) (f : FrameView)
     → left ≡ f ∷ rest
     → ((l : Limits) (items : List Item) (d : Datagram) → Enters l items t d → length d.samples ≡ index
     → StandsFor now l (Got d ∷ items) → StandsFor new l (Got (with_sample d (sample_in (frame_tree samples_read f))) ∷ items))
@@ -79,7 +79,7 @@ samples-length [] = refl
 samples-length (f ∷ more) = ap suc (samples-length more)
 
 -- while samples are left, fewer than 8,191 were entered
-pub index-few : (old now : CollectorState) (t : TakenAt) (index : ℕ) (all left rest : List FrameView) (f : FrameView)
+pub index-few : (old now : BooksState) (t : TakenAt) (index : ℕ) (all left rest : List FrameView) (f : FrameView)
     → left ≡ f ∷ rest → length all ≤ 8191 → SoFar old now t index all left → index ≤ 8190
 index-few old now t index all left rest f is most so_far =
     let sum : length (so_far.done ++ samples_of left) ≡ length so_far.done + length (samples_of left) =
@@ -91,7 +91,7 @@ index-few old now t index all left rest f is most so_far =
     let count = so_far.count in
     omega (arith, sum, whole, a, b, c, most, count)
 
-pub midway : (old now : CollectorState) (t : TakenAt) (index : ℕ) (all left : List FrameView)
+pub midway : (old now : BooksState) (t : TakenAt) (index : ℕ) (all left : List FrameView)
     → Midway old t 0 → SoFar old now t index all left → Midway now t index
 midway old now t index all left mid so_far =
     let none : mid.datagram.samples ≡ [] = empty mid.datagram.samples mid.index_is in
@@ -122,7 +122,7 @@ append-nil : {X : Type 0} (xs : List X) → xs ++ [] ≡ xs
 append-nil [] = refl
 append-nil (x ∷ xs) = ap (λ rest. x ∷ rest) (append-nil xs)
 
-pub all-entered : (old now : CollectorState) (t : TakenAt) (index : ℕ) (all left : List FrameView) → left ≡ []
+pub all-entered : (old now : BooksState) (t : TakenAt) (index : ℕ) (all left : List FrameView) → left ≡ []
     → SoFar old now t index all left → (l : Limits) (items : List Item) (d : Datagram) → Enters l items t d
     → StandsFor old l (Got (with_samples d []) ∷ items) → StandsFor now l (Got (with_samples d (samples_of all)) ∷ items)
 all-entered old now t index all left none so_far l items d enters st =

@@ -1,7 +1,7 @@
 -- A datagram is taken: its head, and then its samples where it is First.
-use Rattle.std.proofs.Common.{◌≡◌, ◌∙◌, ℕ, ◌<◌, Bool, true, false, cond, nat_le, Option, Some, List, [], ◌∷◌, length, refl, sym, ap, subst, true≢false, arith}
+use Rattle.std.proofs.Common.{◌≡◌, ◌∙◌, ℕ, ◌<◌, Bool, true, false, cond, nat_le, Option, None, Some, List, [], ◌∷◌, length, refl, sym, ap, subst, true≢false, arith}
 use Rattle.std.specs.Option.{IfSome}
-use Rattle.std.proofs.lemmas.Bool.{leb-true}
+use Rattle.std.proofs.lemmas.Bool.{leb-true, leb-false}
 use Rattle.data_format.specs.Trees.{frame_trees}
 use Rattle.datagram_core.specs.declared.head.DatagramHead.{DatagramHead}
 use Rattle.datagram_core.specs.Heads.{DatagramView, head_of}
@@ -16,16 +16,17 @@ use Rattle.books_spec.specs.declared.taken.Taken.TheVariants as takes
 use Rattle.stream_books.specs.Streams.{IsAt}
 use Rattle.collector_tables.specs.declared.keys.StreamKey.{StreamKey}
 use Rattle.collector_tables.specs.declared.streams.TakenAt.{TakenAt}
+use Rattle.collector_tables.specs.Answers.{answer_in_books}
 use Rattle.collector_tables.specs.Keys.{stream_in}
 use Rattle.flow_collector.specs.Items.{samples_in}
-use Rattle.flow_collector.specs.Collectors.{CollectorState, StandsFor, AreFew}
+use Rattle.flow_collector.specs.Collectors.{BooksState, StandsFor, AreFew}
 use Rattle.flow_collector.specs.Steps.{is_first, with_samples, IsFound, Enters, Midway}
 use Rattle.flow_collector.proofs.Kept.{entries-are}
 use Rattle.flow_collector.proofs.Moves.{not_first-stands}
 use Rattle.flow_collector.proofs.SoFar.{enters-with}
 
 -- the answer where fewer than 2^48 entries were taken
-pub answered : (s : CollectorState) (l : Limits) (items : List Item) (item : Item) (t : Taken) → StandsFor s l items
+pub answered : (s : BooksState) (l : Limits) (items : List Item) (item : Item) (t : Taken) → StandsFor s l items
     → s.totals.entries < most_entries → t ≡ taken_now l items item → t ≡ taken l items item
 answered s l items item t st few is = go (nat_le most_entries (length items)) refl
   where
@@ -35,6 +36,10 @@ answered s l items item t st few is = go (nat_le most_entries (length items)) re
         let number = entries-are s l items st in
         absurd (omega (arith, many, number, few))
     go false e = is
+
+-- fewer were taken than may be
+pub not-spent : (entries : ℕ) (b : Bool) → b ≡ nat_le most_entries entries → b ≡ false → entries < most_entries
+not-spent entries b is not = leb-false most_entries entries (sym is ∙ not)
 
 pub first-is : (t : Taken) → is_first t ≡ true → t ≡ First
 first-is First e = refl
@@ -68,7 +73,7 @@ found-at l items d o t is this =
     now
 
 -- the samples of a datagram that was taken may be entered
-pub may-enter : (now : CollectorState) (l : Limits) (items : List Item) (t : TakenAt) (d : Datagram)
+pub may-enter : (now : BooksState) (l : Limits) (items : List Item) (t : TakenAt) (d : Datagram)
     → Enters l items t d → StandsFor now l (Got (with_samples d []) ∷ items) → AreFew items
     → length items < most_entries → Midway now t 0
 may-enter now l items t d entering st few room =
@@ -85,7 +90,16 @@ may-enter now l items t d entering st few room =
       index_is = refl;
     }
 
+-- so may those of one that was found, where it is First
+pub found-midway : (now : BooksState) (l : Limits) (items : List Item) (d : Datagram) (o : Option TakenAt)
+    → answer_in_books o ≡ taken_now l items (Got d) → IfSome o (λ t. IsFound l items t d)
+    → StandsFor now l (Got (with_samples d []) ∷ items) → AreFew items → length items < most_entries
+    → IfSome o (λ t. is_first t.receipt.taken ≡ true → Midway now t 0)
+found-midway now l items d None answer found st few room = tt
+found-midway now l items d (Some t) answer found st few room = λ first.
+    may-enter now l items t d (record { found = found; first = sym answer ∙ first-is t.receipt.taken first }) st few room
+
 -- a datagram that isn't First
-pub passes : (s : CollectorState) (l : Limits) (items : List Item) (d : Datagram) (t : Taken) → is_first t ≡ false
+pub passes : (s : BooksState) (l : Limits) (items : List Item) (d : Datagram) (t : Taken) → is_first t ≡ false
     → t ≡ taken_now l items (Got d) → StandsFor s l (Got (with_samples d []) ∷ items) → StandsFor s l (Got d ∷ items)
 passes s l items d t not answer st = not_first-stands s l items d (ap is_first (sym answer) ∙ not) st

@@ -13,19 +13,20 @@ use Rattle.collector_tables.specs.Tables.{Table}
 use Rattle.collector_tables.specs.Listed.{StreamsStand}
 use Rattle.collector_tables.specs.Sources.{SourcesStand}
 use Rattle.if_ledger.specs.Tables.{Ledgers}
+use Rattle.sample_taps.specs.declared.class_totals.ClassTotals.{ClassTotals}
 use Rattle.flow_collector.specs.Interfaces.{InterfacesStand}
-use Rattle.flow_collector.specs.declared.collector.Collector.TheInside.{Inside}
+use Rattle.flow_collector.specs.declared.books.Books.TheInside.{Inside}
 
--- what contracts see of a collector: what it may hold, its tables, and its counts
-pub record CollectorState : Type 0 where
+-- what contracts see of the books of a collector: what it may hold, its tables, and its counts
+pub record BooksState : Type 0 where
   pub limits : Limits
   pub streams : Table StreamKey StreamState
   pub sources : Table SourceKey SourceRecord
   pub interfaces : Ledgers
   pub totals : Totals
 
-abbrev pub collector_state : Inside → CollectorState
-collector_state c = record {
+abbrev pub books_state : Inside → BooksState
+books_state c = record {
   limits = c.limits;
   streams = c.streams;
   sources = c.sources;
@@ -33,8 +34,13 @@ collector_state c = record {
   totals = c.totals;
 }
 
+-- what contracts see of a collector: its books, and how many headers of each class it was fed
+pub record CollectorState : Type 0 where
+  pub books : BooksState
+  pub classes : ClassTotals
+
 -- under these limits it stands for these items
-pub record StandsFor (s : CollectorState) (l : Limits) (items : List Item) : Type 0 where
+pub record StandsFor (s : BooksState) (l : Limits) (items : List Item) : Type 0 where
   pub limits_are : s.limits ≡ l
   pub stream_limit : s.streams.limit ≡ l.streams
   pub source_limit : s.sources.limit ≡ l.sources
@@ -60,7 +66,7 @@ pub record AreWithin (l : Limits) : Type 0 where
   pub samples_to : l.sample_width ≤ 8192
 
 -- what is always so: it stands for some items, no more than 2^48
-pub record IsCollector (s : CollectorState) : Type 0 where
+pub record AreBooks (s : BooksState) : Type 0 where
   pub within : AreWithin s.limits
   pub items : List Item
   pub stands : StandsFor s s.limits items

@@ -1,11 +1,9 @@
 -- The item of an entry: a datagram as the books see it, as a function of its value, or the fault of its bytes.
-use Rattle.std.specs.Prelude.{ℕ, zero, suc, ◌==◌, false, Option, Some, None, List, [], ◌∷◌, Result, Ok, Err, if◌then◌else◌}
+use Rattle.std.specs.Prelude.{ℕ, ◌==◌, false, Option, Some, None, List, [], ◌∷◌, Result, Ok, Err, if◌then◌else◌}
 use Rattle.wire_spec.specs.declared.pad.Pad.TheVariants.{Any}
 use Rattle.wire_spec.specs.declared.fault.Fault.{Fault}
-use Rattle.wire_spec.specs.Shapes.{word, fixed, array, structure, union, Tree, known, Trees, none, ◌&◌}
-use Rattle.wire_spec.specs.Heads.{AgentAddress, unknown, ipv4, ipv6, Head}
+use Rattle.wire_spec.specs.Shapes.{Tree, known, Trees, none, ◌&◌}
 use Rattle.wire_spec.specs.Whole.{whole_reading}
-use Rattle.data_format.specs.declared.heads.Form.{Form}
 use Rattle.data_format.specs.declared.heads.Form.TheVariants.{Compact, Expanded}
 use Rattle.data_format.specs.declared.source.SourceId as ids
 use Rattle.data_format.specs.Compact.{source_of}

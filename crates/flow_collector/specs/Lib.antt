@@ -4,3 +4,5 @@ pub mod Interfaces
 pub mod Collectors
 pub mod Steps
 pub mod Refusals
+pub mod Headers
+pub mod Gathering

@@ -1,73 +1,52 @@
-ghost use Rattle.std.specs.Prelude.{◌≡◌, ℕ, ◌+◌, ◌≤◌, ◌<◌, cond, List, [], ◌∷◌, length, slice_get, is_some, if◌then◌else◌, Some, None, Option, IfOk, IfErr, IfNone, IfSome};
+ghost use Rattle.std.specs.Prelude.{◌≡◌, ℕ, ◌+◌, ◌≤◌, ◌<◌, ◌^◌, false, List, [], ◌∷◌, length, map, vec_len, slice_get, Some, IfOk, IfErr, IfSome};
 ghost use Rattle.std.specs.declared.result.Result.TheVariants.{Err};
 ghost use Rattle.std.specs.Option.{option_map};
-ghost use Rattle.data_format.specs.Trees.{frame_tree, frame_trees};
-ghost use Rattle.data_format.specs.Views.{FrameView};
-ghost use Rattle.data_format.specs.declared.heads.Form.{Form};
-ghost use Rattle.datagram_core.specs.SampleHeads.{AreCountersIn, IsHeadOf};
-ghost use Rattle.datagram_core.specs.Tables.{samples_read};
 ghost use Rattle.datagram_core.specs.Trees.{tree_of};
 ghost use Rattle.books_spec.specs.declared.limits.Limits.{Limits};
-ghost use Rattle.books_spec.specs.Items.{Datagram as Given, Item, Got, Malformed as Faulty, stream_of};
+ghost use Rattle.books_spec.specs.Items.{Item, Got, Malformed as Faulty};
 ghost use Rattle.books_spec.specs.Limits.{refused_limit};
-ghost use Rattle.books_spec.specs.Books.{books, fault_after, taken, taken_now, totals, listed_streams, listed_sources, most_entries};
+ghost use Rattle.books_spec.specs.Books.{books, taken, totals, listed_streams, listed_sources, most_entries};
 ghost use Rattle.books_spec.specs.WholeBooks.{whole_books};
-ghost use Rattle.stream_books.specs.Streams.{IsAt};
-ghost use Rattle.collector_tables.specs.Keys.{stream_in};
-ghost use Rattle.collector_tables.specs.Answers.{answer_in_books};
 ghost use Rattle.collector_views.specs.Views.{stream_shown, source_shown};
-ghost use Rattle.flow_collector.specs.Items.{datagram_in, sample_in, samples_in};
+ghost use Rattle.sample_taps.specs.Briefs.{facts_in};
+ghost use Rattle.sample_taps.specs.Classes.{no_classes, with_headers};
+ghost use Rattle.sample_taps.specs.Feeding.{Held};
+ghost use Rattle.flow_collector.specs.Items.{datagram_in};
 ghost use Rattle.flow_collector.specs.Interfaces.{interface_shown_of};
 ghost use Rattle.flow_collector.specs.Collectors.{StandsFor};
-ghost use Rattle.flow_collector.specs.Shown.{sample_shown, carried_in};
-ghost use Rattle.flow_collector.specs.Steps.{is_first, with_samples, with_sample, IsFound, Enters, Midway};
+ghost use Rattle.flow_collector.specs.Headers.{briefs_now, headered};
+ghost use Rattle.flow_collector.specs.Steps.{is_first};
 ghost use Rattle.flow_collector.specs.Refusals.{IsRefusedBy};
 
 use crate::OpenRefusal;
-use crate::interfaces::{carried_by, enter_carried, interface_view};
-use crate::shown::{Shown, counters_shown, flow_shown};
-use collector_tables::{EnteredAt, SourceKey, SourceTable, StreamKey, StreamTable, TakenAt};
-use collector_views::{FirstFault, IfView, Limits, SourceView, StreamView, Totals};
-use data_format::{CountersHead, Fault};
-use datagram_core::{Datagram, SampleHead, Samples};
-use if_ledger::IfTable;
-use rec_counters::IfCounters;
+use crate::books::{Books, Seeds};
+use crate::samples::enter_samples;
+use collector_tables::StreamKey;
+use collector_views::{IfView, Limits, SourceView, StreamView, Totals};
+use data_format::Fault;
+use datagram_core::Datagram;
+use sample_taps::{Briefing, ClassTotals, Tap, Taps};
 use std::alloc::Global;
-use std::hash::RandomState;
 use std::marker::Model;
-use stream_books::{SamplePlace, Taken};
+use stream_books::Taken;
 
-/// At most so many entries are taken.
-const MOST_ENTRIES: u64 = 1 << 48;
-
-/// What the hashes of a collector's tables begin with. No figure depends on it.
-#[derive(Clone, Copy)]
-pub struct Seeds {
-    /// Of the table of streams.
-    pub streams: RandomState,
-    /// Of the table of sources.
-    pub sources: RandomState,
-}
-
-/// What a collector holds: the streams and the sources that it lists, and counts of all entries.
+/// What a collector holds: its books, and how many headers of each class it was fed. Between two calls no header waits for
+/// the consumers.
 #[derive(Drop)]
 pub struct Collector {
-    limits: Limits,
-    streams: StreamTable,
-    sources: SourceTable,
-    /// The interface counters of each source, at its place.
-    interfaces: IfTable,
-    totals: Totals,
+    books: Books,
+    briefing: Briefing,
 }
 
 impl Model for Collector {
-    ghost use Rattle.flow_collector.specs.Collectors.{CollectorState, collector_state, IsCollector};
+    ghost use Rattle.std.specs.Prelude.{◌≡◌, []};
+    ghost use Rattle.flow_collector.specs.Collectors.{CollectorState};
 
     ghost Value = { CollectorState };
 
-    ghost view = { collector_state };
+    ghost view = { λ c. record { books = c.books; classes = c.briefing.totals } };
 
-    ghost invariant = { λ c. IsCollector (collector_state c) };
+    ghost invariant = { λ c. c.briefing.pending ≡ [] };
 }
 
 impl Collector {
@@ -76,38 +55,18 @@ impl Collector {
     /// `BadLimit` comes exactly where a limit is out of its range, with the least number of such a limit; `Memory`
     /// only where there is none for the tables.
     pub fn open(alloc: Global, limits: Limits, seeds: Seeds) -> Result<Collector, OpenRefusal>
-        ensures stands { IfOk result (λ c. StandsFor c limits []) }
+        ensures stands { IfOk result (λ c. StandsFor c.books limits []) }
+        ensures classes { IfOk result (λ c. c.classes ≡ no_classes) }
         ensures refused { IfErr result (λ e. IsRefusedBy limits e) }
         ensures bad_limit { (number : ℕ) → refused_limit limits ≡ Some number → result ≡ Err (OpenRefusal.BadLimit number) }
     {
-        if let Some(number) = limits.refused() {
-            return Err(OpenRefusal::BadLimit { number });
+        match Books::open(alloc, limits, seeds) {
+            Ok(books) => Ok(Collector {
+                books,
+                briefing: Briefing::new(),
+            }),
+            Err(refusal) => Err(refusal),
         }
-        Collector::with_room(alloc, limits, seeds)
-    }
-
-    // Opens a collector whose limits are each within their range.
-    fn with_room(alloc: Global, limits: Limits, seeds: Seeds) -> Result<Collector, OpenRefusal>
-        requires { refused_limit limits ≡ None }
-        ensures stands { IfOk result (λ c. StandsFor c limits []) }
-        ensures refused { IfErr result (λ e. IsRefusedBy limits e) }
-    {
-        let Ok(streams) = StreamTable::open(alloc, limits.streams, seeds.streams) else {
-            return Err(OpenRefusal::Memory);
-        };
-        let Ok(sources) = SourceTable::open(alloc, limits.sources, seeds.sources) else {
-            return Err(OpenRefusal::Memory);
-        };
-        let Ok(interfaces) = IfTable::open(alloc, limits.sources) else {
-            return Err(OpenRefusal::Memory);
-        };
-        Ok(Collector {
-            limits,
-            streams,
-            sources,
-            interfaces,
-            totals: NO_TOTALS,
-        })
     }
 
     /// Takes a datagram, which arrived at `at` ms, as the next entry, and answers, in this order: `Spent`, exactly
@@ -115,15 +74,27 @@ impl Collector {
     /// as many are listed as the limits allow; `Stale`, where it comes from an earlier boot of its sub-agent; `Late`,
     /// `Repeat` or `First` by the window over the numbers of its boot. The samples of a `First` datagram are entered,
     /// in their order. Never `Malformed`. All the room that it needs was taken at the opening.
-    pub fn take(&mut self, at: u64, datagram: &Datagram<'_>) -> Taken
-        ensures stands { (l : Limits) (items : List Item) → length items < most_entries → StandsFor self.old l items
-            → StandsFor self.new l (Got (datagram_in at (tree_of datagram.now)) ∷ items) }
-        ensures answer { (l : Limits) (items : List Item) → StandsFor self.old l items
+    ///
+    /// The headers in those flow samples of a `First` datagram that are First themselves are counted by their classes and
+    /// go to the consumers, in their order. Any other datagram goes to none.
+    pub fn take(&mut self, at: u64, datagram: &Datagram<'_>, taps: &mut Taps) -> Taken
+        requires { taps.old.ended + vec_len taps.old.held < 2 ^ 64 }
+        ensures stands { (l : Limits) (items : List Item) → length items < most_entries → StandsFor self.old.books l items
+            → StandsFor self.new.books l (Got (datagram_in at (tree_of datagram.now)) ∷ items) }
+        ensures answer { (l : Limits) (items : List Item) → StandsFor self.old.books l items
             → result ≡ taken l items (Got (datagram_in at (tree_of datagram.now))) }
-        ensures spent { (l : Limits) (items : List Item) → most_entries ≤ length items → StandsFor self.old l items
+        ensures spent { (l : Limits) (items : List Item) → most_entries ≤ length items → StandsFor self.old.books l items
             → self.new ≡ self.old }
+        ensures fed { (l : Limits) (items : List Item) → length items < most_entries → StandsFor self.old.books l items
+            → Held (λ x b y. (v : _) × (y ≡ record x { value = v }) × (⟦<dyn Tap as Tap>⟧ x.vtable).step x.value b v)
+            (λ x. (⟦<dyn Tap as Tap>⟧ x.vtable).ended x.value)
+            (briefs_now l items (headered at (tree_of datagram.now))) taps.old.held.items taps.new.held.items }
+        ensures classes { (l : Limits) (items : List Item) → length items < most_entries → StandsFor self.old.books l items
+            → self.new.classes ≡ with_headers self.old.classes (map facts_in (briefs_now l items (headered at (tree_of datagram.now)))) }
+        ensures untold { is_first result ≡ false → (taps.new ≡ taps.old) × (self.new.classes ≡ self.old.classes) }
+        ensures ended { taps.new.ended + vec_len taps.new.held ≡ taps.old.ended + vec_len taps.old.held }
     {
-        if self.totals.entries >= MOST_ENTRIES {
+        if self.books.is_spent() {
             return Taken::Spent;
         }
         let head = datagram.head();
@@ -131,279 +102,91 @@ impl Collector {
             agent: head.agent,
             sub_agent: head.sub_agent,
         };
-        let Some(found) = self.take_head(stream, at, head.uptime, head.sequence) else {
+        let Some(found) = self.books.take_head(stream, at, head.uptime, head.sequence) else {
             return Taken::Unlisted;
         };
         if is_entered(found.receipt.taken) {
-            self.enter_samples(&found, datagram.samples());
+            let samples = datagram.samples();
+            enter_samples(&mut self.books, &mut self.briefing, taps, &found, samples);
+            self.briefing.finish(taps);
             return found.receipt.taken;
         }
         found.receipt.taken
     }
 
-    // Takes a datagram as though it had no samples; `None` where its stream isn't listed.
-    fn take_head(
-        &mut self,
-        stream: StreamKey,
-        at: u64,
-        uptime: u32,
-        sequence: u32,
-    ) -> Option<TakenAt>
-        requires { self.old.totals.entries < most_entries }
-        ensures stands { (l : Limits) (items : List Item) (d : Given) → stream_in stream ≡ stream_of d
-            → IsAt d at uptime sequence → StandsFor self.old l items
-            → StandsFor self.new l (Got (with_samples d []) ∷ items) }
-        ensures answer { (l : Limits) (items : List Item) (d : Given) → stream_in stream ≡ stream_of d
-            → IsAt d at uptime sequence → StandsFor self.old l items
-            → answer_in_books result ≡ taken_now l items (Got d) }
-        ensures found { (l : Limits) (items : List Item) (d : Given) → stream_in stream ≡ stream_of d
-            → IsAt d at uptime sequence → StandsFor self.old l items
-            → IfSome result (λ t. IsFound l items t d) }
-    {
-        self.totals.entries += 1;
-        let found = self.streams.take(
-            stream,
-            self.limits.datagram_width,
-            self.limits.boot_slack,
-            at,
-            uptime,
-            sequence,
-        );
-        self.totals.unlisted += none_count(found.is_some());
-        found
-    }
-
-    // Enters the samples of a datagram that was taken as though it had none.
-    fn enter_samples(&mut self, found: &TakenAt, mut samples: Samples<'_>)
-        requires midway { Midway self.old found.now 0 }
-        requires few { length samples ≤ 8191 }
-        ensures stands { (l : Limits) (items : List Item) (d : Given) → Enters l items found.now d
-            → StandsFor self.old l (Got (with_samples d []) ∷ items)
-            → StandsFor self.new l (Got (with_samples d (samples_in (frame_trees samples_read samples.entry))) ∷ items) }
-    {
-        let mut index = 0;
-        while let Some((head, ahead)) = next_sample(&mut samples) {
-            self.enter_sample(found, index, &head, ahead);
-            index += 1;
-        }
-    }
-
-    // Enters the sample of this index of the datagram, by its head and as the first of those ahead, and answers where it
-    // was entered and what its ledger answered; `None` where its format isn't read or its source isn't listed.
-    fn enter_sample(
-        &mut self,
-        found: &TakenAt,
-        index: u32,
-        head: &SampleHead,
-        ahead: Samples<'_>,
-    ) -> Option<EnteredAt>
-        requires midway { Midway self.old found.now index }
-        requires few { index ≤ 8190 }
-        ensures stands { (l : Limits) (items : List Item) (d : Given) (f : FrameView) (rest : List FrameView) → Enters l items found.now d
-            → length d.samples ≡ index → ahead.entry ≡ f ∷ rest → IsHeadOf f head.now → StandsFor self.old l (Got d ∷ items)
-            → StandsFor self.new l (Got (with_sample d (sample_in (frame_tree samples_read f))) ∷ items) }
-    {
-        match head {
-            SampleHead::Flow(flow) => self.enter(found, index, flow_shown(flow), &None),
-            SampleHead::Counters(counters) => self.enter_counters(found, index, counters, ahead),
-            SampleHead::Other => {
-                self.totals.other += 1;
-                None
-            }
-        }
-    }
-
-    // Enters the counters sample of this head, the first of those ahead.
-    #[inline(never)]
-    fn enter_counters(
-        &mut self,
-        found: &TakenAt,
-        index: u32,
-        head: &CountersHead,
-        ahead: Samples<'_>,
-    ) -> Option<EnteredAt>
-        requires midway { Midway self.old found.now index }
-        requires few { index ≤ 8190 }
-        ensures stands { (l : Limits) (items : List Item) (d : Given) (form : Form) (f : FrameView) (rest : List FrameView)
-            → Enters l items found.now d → length d.samples ≡ index → ahead.entry ≡ f ∷ rest → AreCountersIn form f head.now
-            → StandsFor self.old l (Got d ∷ items)
-            → StandsFor self.new l (Got (with_sample d (sample_in (frame_tree samples_read f))) ∷ items) }
-    {
-        let carried = carried_by(ahead);
-        self.enter(found, index, counters_shown(head), &carried)
-    }
-
-    // Enters what a sample shows whose format is read, and the counters of an interface that it may carry.
-    fn enter(
-        &mut self,
-        found: &TakenAt,
-        index: u32,
-        shown: Shown,
-        carried: &Option<IfCounters<'_>>,
-    ) -> Option<EnteredAt>
-        requires midway { Midway self.old found.now index }
-        requires few { index ≤ 8190 }
-        ensures stands { (l : Limits) (items : List Item) (d : Given) → Enters l items found.now d
-            → length d.samples ≡ index → StandsFor self.old l (Got d ∷ items)
-            → StandsFor self.new l (Got (with_sample d (sample_shown shown (carried_in carried.now))) ∷ items) }
-    {
-        let key = SourceKey {
-            stream: found.place,
-            kind: shown.kind,
-            source: shown.source,
-        };
-        let at = place_at(found, index);
-        let width = self.limits.sample_width;
-        let entered = self
-            .sources
-            .enter(key, width, found.boot, at, shown.reading);
-        self.totals.unlisted_samples += none_count(entered.is_some());
-        enter_carried(&mut self.interfaces, &self.sources, &entered, carried);
-        entered
-    }
-
     /// Takes an entry that is no datagram, with its first fault, as the next one: `Malformed`, and it is counted; or
-    /// `Spent`, exactly where 2^48 entries were taken before, and then nothing changes. All the room that it needs was taken at the opening.
+    /// `Spent`, exactly where 2^48 entries were taken before, and then nothing changes. No header is counted. All the
+    /// room that it needs was taken at the opening.
     pub fn reject(&mut self, fault: &Fault) -> Taken
-        ensures stands { (l : Limits) (items : List Item) → length items < most_entries → StandsFor self.old l items
-            → StandsFor self.new l (Faulty fault.now ∷ items) }
-        ensures answer { (l : Limits) (items : List Item) → StandsFor self.old l items
+        ensures stands { (l : Limits) (items : List Item) → length items < most_entries → StandsFor self.old.books l items
+            → StandsFor self.new.books l (Faulty fault.now ∷ items) }
+        ensures answer { (l : Limits) (items : List Item) → StandsFor self.old.books l items
             → result ≡ taken l items (Faulty fault.now) }
-        ensures spent { (l : Limits) (items : List Item) → most_entries ≤ length items → StandsFor self.old l items
+        ensures spent { (l : Limits) (items : List Item) → most_entries ≤ length items → StandsFor self.old.books l items
             → self.new ≡ self.old }
+        ensures classes { self.new.classes ≡ self.old.classes }
     {
-        if self.totals.entries >= MOST_ENTRIES {
-            return Taken::Spent;
-        }
-        self.totals.entries += 1;
-        self.totals.malformed += 1;
-        self.totals.first_fault = first_of(self.totals.first_fault, self.totals.entries, fault);
-        Taken::Malformed
+        self.books.reject(fault)
     }
 
     /// How many streams are listed.
     pub fn stream_count(&self) -> usize
-        ensures streams { (l : Limits) (items : List Item) → StandsFor self.now l items
+        ensures streams { (l : Limits) (items : List Item) → StandsFor self.now.books l items
             → result ≡ length (listed_streams l items) }
-        ensures limit { result ≤ self.now.limits.streams }
+        ensures limit { result ≤ self.now.books.limits.streams }
     {
-        self.streams.len()
+        self.books.stream_count()
     }
 
     /// What is shown of the stream at a place, from 0 on in order of first arrival; `None` exactly past the end.
     pub fn stream(&self, place: usize) -> Option<StreamView>
-        ensures view { (l : Limits) (items : List Item) → StandsFor self.now l items
+        ensures view { (l : Limits) (items : List Item) → StandsFor self.now.books l items
             → option_map stream_shown result ≡ slice_get (books l items).streams place }
         ensures conserved { IfSome result (λ v. v.ledger.issued ≡ v.ledger.received + v.ledger.pending + v.ledger.lost) }
     {
-        let (key, stream) = self.streams.get(place)?;
-        Some(StreamView {
-            agent: key.agent,
-            sub_agent: key.sub_agent,
-            boots: stream.boots(),
-            ledger: stream.view(),
-            stale: stream.stale(),
-        })
+        self.books.stream(place)
     }
 
     /// How many sources are listed.
     pub fn source_count(&self) -> usize
-        ensures sources { (l : Limits) (items : List Item) → StandsFor self.now l items
+        ensures sources { (l : Limits) (items : List Item) → StandsFor self.now.books l items
             → result ≡ length (listed_sources l items) }
-        ensures limit { result ≤ self.now.limits.sources }
+        ensures limit { result ≤ self.now.books.limits.sources }
     {
-        self.sources.len()
+        self.books.source_count()
     }
 
     /// What is shown of the source at a place, from 0 on in order of first arrival; `None` exactly past the end.
     pub fn source(&self, place: usize) -> Option<SourceView>
-        ensures view { (l : Limits) (items : List Item) → StandsFor self.now l items
+        ensures view { (l : Limits) (items : List Item) → StandsFor self.now.books l items
             → option_map source_shown result ≡ slice_get (whole_books l items).sources place }
         ensures conserved { IfSome result (λ v. v.ledger.issued ≡ v.ledger.received + v.ledger.pending + v.ledger.lost) }
     {
-        let (key, source) = self.sources.get(place)?;
-        let (_, stream) = self.streams.get(key.stream as usize)?;
-        let view = source.view(stream.boots());
-        Some(SourceView {
-            stream: key.stream + 1,
-            flow: key.kind.is_flow(),
-            source: key.source,
-            generations: view.generations,
-            ledger: view.ledger,
-            stale: view.stale,
-        })
+        self.books.source(place)
     }
 
     /// By how much the counters of the interface rose of which the source at a place has samples; `None` exactly where no
     /// source is there, where it is one of flow samples, or where no First sample of it has a record of interface counters.
     pub fn interface(&self, place: usize) -> Option<IfView>
-        ensures view { (l : Limits) (items : List Item) → StandsFor self.now l items
+        ensures view { (l : Limits) (items : List Item) → StandsFor self.now.books l items
             → result ≡ interface_shown_of l items (slice_get (listed_sources l items) place) }
     {
-        let (key, _) = self.sources.get(place)?;
-        let ledger = self.interfaces.get(place)?;
-        interface_view(key.kind, ledger)
+        self.books.interface(place)
     }
 
     /// The counts of all entries, exact after each call.
     pub fn totals(&self) -> Totals
-        ensures { (l : Limits) (items : List Item) → StandsFor self.now l items → result ≡ totals l items }
+        ensures { (l : Limits) (items : List Item) → StandsFor self.now.books l items → result ≡ totals l items }
     {
-        self.totals
+        self.books.totals()
     }
-}
 
-/// The counts before any entry.
-const NO_TOTALS: Totals = Totals {
-    entries: 0,
-    malformed: 0,
-    unlisted: 0,
-    unlisted_samples: 0,
-    other: 0,
-    first_fault: None,
-};
-
-// The head of the first sample that is left, which is then passed, and that sample with those behind it once more; `None`
-// exactly where none is left.
-#[inline(always)]
-fn next_sample<'a>(samples: &mut Samples<'a>) -> Option<(SampleHead, Samples<'a>)>
-    ensures none { IfNone result ((samples.old ≡ []) × (samples.new ≡ [])) }
-    ensures some { IfSome result (λ p. (f : FrameView) × (samples.old ≡ f ∷ samples.new) × IsHeadOf f p.0 × (p.1 ≡ f ∷ samples.new)) }
-{
-    let ahead = samples.fork();
-    let head = samples.next_head()?;
-    Some((head, ahead))
-}
-
-// The first fault, after an entry of this number that has this fault.
-fn first_of(first: Option<FirstFault>, entry: u64, fault: &Fault) -> Option<FirstFault>
-    ensures { (before : ℕ) → entry ≡ before + 1
-        → result ≡ fault_after first before (Faulty fault.now) }
-{
-    match first {
-        Some(earlier) => Some(earlier),
-        None => Some(FirstFault {
-            entry,
-            fault: *fault,
-        }),
+    /// How many headers there were of each class, exact after each call.
+    pub fn classes(&self) -> ClassTotals
+        ensures { result ≡ self.now.classes }
+    {
+        self.briefing.totals()
     }
-}
-
-// Where the sample of this index stands of a datagram that was taken so.
-fn place_at(found: &TakenAt, index: u32) -> SamplePlace
-    ensures { result ≡ record { datagram = found.now.receipt.number; index = index } }
-{
-    SamplePlace {
-        datagram: found.receipt.number,
-        index,
-    }
-}
-
-// 1 where nothing was found for an arrival, and else 0.
-fn none_count(is_found: bool) -> u64
-    ensures { result ≡ if is_found then 0 else 1 }
-{
-    if is_found { 0 } else { 1 }
 }
 
 // Whether the samples of a datagram that was answered so are entered.

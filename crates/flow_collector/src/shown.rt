@@ -1,6 +1,7 @@
 ghost use Rattle.std.specs.Prelude.{◌≡◌, Option, None};
 ghost use Rattle.books_spec.specs.InterfaceRise.{InterfaceCounters};
-ghost use Rattle.flow_collector.specs.Shown.{sample_shown, flow_of, counters_of};
+ghost use Rattle.flow_collector.specs.Headers.{flow_id, flow_reading};
+ghost use Rattle.flow_collector.specs.Shown.{id_shown, sample_shown, flow_of, counters_of};
 
 use collector_tables::SampleKind;
 use data_format::{CountersHead, FlowHead, SourceId};
@@ -18,7 +19,9 @@ pub struct Shown {
 
 /// What a flow sample of this head shows.
 pub(crate) fn flow_shown(head: &FlowHead) -> Shown
-    ensures { sample_shown result None ≡ flow_of head.now }
+    ensures sample { sample_shown result None ≡ flow_of head.now }
+    ensures id { id_shown result ≡ flow_id head.now }
+    ensures reading { result.reading ≡ flow_reading head.now }
 {
     Shown {
         kind: SampleKind::Flow,

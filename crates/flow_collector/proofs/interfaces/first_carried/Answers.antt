@@ -1,4 +1,4 @@
-use Rattle.std.proofs.Common.{◌≡◌, ◌∙◌, None, Some, refl, sym, subst}
+use Rattle.std.proofs.Common.{◌∙◌, None, Some, subst}
 use Rattle.datagram_core.specs.declared.records.RecordKind.{RecordKind}
 use Rattle.datagram_core.specs.Kinds.{HasKind}
 use Rattle.datagram_core.specs.Records.{IsRecordOf}
