@@ -1,8 +1,2 @@
-mod Numerals
-mod Splits
-mod HexBytes
-mod SkipLists
-mod Pushes
-mod Headers
 mod TextLines
 mod Passed

@@ -1,4 +1,3 @@
 pub mod Shown
-pub mod Taken
 pub mod Fronts
 pub mod Readers

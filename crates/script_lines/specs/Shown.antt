@@ -1,14 +1,10 @@
 -- What a line that was read says.
 use Rattle.data_format.specs.Addresses.{address_of}
-use Rattle.data_format.specs.declared.source.SourceId.{SourceId}
-use Rattle.script_spec.specs.Values.{Place}
 use Rattle.script_spec.specs.Lines.{Line, MaxLine, SubLine, FlowLine, CounterLine, PacketLine, PollLine, SendLine, RestartLine, ResetLine, DeliverLine, flow_at, counter_at, source_at}
 use Rattle.script_spec.specs.Forms.{single}
+use Rattle.script_words.specs.Places.{place_of}
 use Rattle.script_lines.specs.declared.line.ScriptLine.{ScriptLine}
 use Rattle.script_lines.specs.declared.line.ScriptLine.TheVariants as read
-
-abbrev pub place_of : SourceId → Place
-place_of id = record { class = id.class; index = id.index }
 
 abbrev pub shown : ScriptLine → Line
 shown (read.Max bytes) = MaxLine bytes

@@ -6,7 +6,7 @@ ghost use Rattle.script_spec.specs.Parts.{whole};
 ghost use Rattle.script_lines.specs.Shown.{shown};
 
 use crate::ScriptLine;
-use crate::words::Words;
+use script_words::Words;
 
 /// The greatest time at which a boot arrives.
 const MOST_TIME: u64 = 9_223_372_036_854_775_807;

@@ -3,13 +3,10 @@
 
 mod forms;
 mod line;
-mod numbers;
 mod place;
 mod reader;
 mod step;
 mod text;
-mod values;
-mod words;
 
 pub use agent_sampler::Skips;
 pub use byte_ends::Source;

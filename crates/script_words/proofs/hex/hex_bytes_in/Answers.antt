@@ -1,7 +1,7 @@
 use Rattle.std.proofs.Common.{◌≡◌, ◌∙◌, ◌+◌, ◌<◌, length, sym, arith}
-use Rattle.script_lines.proofs.HexBytes.{hex_step, hex_odd, hex_long, hex_none}
-use Rattle.script_lines.proofs.Pushes.{on_err, on_ok, ok_is}
-use Rattle.script_lines.proofs.values.hex_bytes_in.Goals as goal
+use Rattle.script_words.proofs.HexBytes.{hex_step, hex_odd, hex_long, hex_none}
+use Rattle.script_words.proofs.Pushes.{on_err, on_ok, ok_is}
+use Rattle.script_words.proofs.hex.hex_bytes_in.Goals as goal
 
 pub returns-then-at-word : goal.returns-then-at-word
 returns-then-at-word c =

@@ -3,7 +3,7 @@ use Rattle.std.proofs.Common.{◌≡◌, ◌∙◌, ◌==◌, ◌&&◌, ℕ, Boo
 use Rattle.std.proofs.lemmas.Bool.Decides.{nat_tests}
 use Rattle.std.proofs.lemmas.Option.{same_Some}
 use Rattle.script_spec.specs.Words.{hex_bytes, header, is_between, is_dash, where_true}
-use Rattle.script_lines.proofs.HexBytes.{Within}
+use Rattle.script_words.proofs.HexBytes.{Within}
 
 abbrev IsHeader : List ℕ → Bool
 IsHeader bytes = is_between 1 128 (length bytes)

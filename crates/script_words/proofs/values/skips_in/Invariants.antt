@@ -1,8 +1,8 @@
 use Rattle.std.proofs.Common.{length, ◌≡◌, ◌≤◌, ℕ}
 use Rattle.std.specs.List.{AllByRecursion}
 use Rattle.script_spec.specs.Parts.{split_at}
-use Rattle.script_lines.proofs.SkipLists.{behind, numbers_in}
-use Rattle.script_lines.proofs.values.skips_in.Given as goal
+use Rattle.script_words.proofs.SkipLists.{behind, numbers_in}
+use Rattle.script_words.proofs.values.skips_in.Given as goal
 
 abbrev pub invariant-loop-text : goal.invariant-loop-text
 invariant-loop-text l = record {

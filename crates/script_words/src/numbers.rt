@@ -3,7 +3,7 @@ ghost use Rattle.std.specs.Prelude.{◌≡◌, ◌≤◌, true, Some, IfSome};
 ghost use Rattle.std.specs.Char.{is_ascii_digit};
 ghost use Rattle.std.specs.List.{list_all};
 ghost use Rattle.script_spec.specs.Words.{has_leading_zero as leading_zero, is_between, is_numeral as is_numeral_in, number, where_true};
-ghost use Rattle.script_lines.specs.Taken.{Reads, value64};
+ghost use Rattle.script_words.specs.Taken.{Reads, value64};
 
 fn has_leading_zero(word: &[u8]) -> bool
     ensures { result ≡ leading_zero word.now }

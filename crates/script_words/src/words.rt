@@ -3,21 +3,22 @@ ghost use Rattle.std.specs.Prelude.{◌≡◌, ◌≤◌, ◌⊎◌, [], ◌∷�
 ghost use Rattle.std.specs.List.{position_or_len};
 ghost use Rattle.script_spec.specs.Words.{Text, number, number32};
 ghost use Rattle.script_spec.specs.Parts.{one, named, split_at};
-ghost use Rattle.script_lines.specs.Taken.{Takes, Passes, StopsAt};
+ghost use Rattle.script_words.specs.Taken.{Takes, Passes, StopsAt};
 
 use crate::numbers::number_in;
 use std::marker::Model;
 
-/// The words that are left of a text, with a byte between each two of them.
+/// The words that are left of a text, with a byte between each two of them. A call that reads one and answers None
+/// leaves unsaid which words are left.
 #[derive(Drop)]
-pub(crate) struct Words<'a> {
+pub struct Words<'a> {
     separator: u8,
     left: Option<&'a [u8]>,
 }
 
 impl<'a> Model for Words<'a> {
     ghost use Rattle.std.specs.Prelude.{List, ℕ, option_map};
-    ghost use Rattle.script_lines.specs.Taken.{words_in};
+    ghost use Rattle.script_words.specs.Taken.{words_in};
 
     ghost Value = { List (List ℕ) };
 
@@ -37,7 +38,8 @@ fn length_before(text: &[u8], separator: u8) -> usize
 }
 
 impl<'a> Words<'a> {
-    pub(crate) fn new(text: &'a [u8], separator: u8) -> Words<'a>
+    /// All words of the text, of which the first one may be empty.
+    pub fn new(text: &'a [u8], separator: u8) -> Words<'a>
         ensures { result ≡ split_at separator text.entry.now }
     {
         Words {
@@ -46,7 +48,8 @@ impl<'a> Words<'a> {
         }
     }
 
-    pub(crate) fn next(&mut self) -> Option<&'a [u8]>
+    /// The first word that is left.
+    pub fn next(&mut self) -> Option<&'a [u8]>
         ensures { MatchOption result (self.old ≡ []) (λ word. self.old ≡ word.now ∷ self.new) }
     {
         let text = self.left?;
@@ -60,15 +63,15 @@ impl<'a> Words<'a> {
         }
     }
 
-    // This word.
-    pub(crate) fn name(&mut self, name: &[u8]) -> Option<()>
+    /// This word, alone.
+    pub fn name(&mut self, name: &[u8]) -> Option<()>
         ensures { MatchOption result (self.old ≡ [] ⊎ StopsAt name.now self.old) (λ _. Passes name.now self.old self.new) }
     {
         if self.next()? == name { Some(()) } else { None }
     }
 
     /// No word is left.
-    pub(crate) fn end(&mut self) -> Option<()>
+    pub fn end(&mut self) -> Option<()>
         ensures { MatchOption result ((word : Text) × (more : List Text) × (self.old ≡ word ∷ more)) (λ _. self.old ≡ []) }
     {
         match self.next() {
@@ -77,7 +80,8 @@ impl<'a> Words<'a> {
         }
     }
 
-    pub(crate) fn number(&mut self, least: u64, most: u64) -> Option<u64>
+    /// A number in this range, in decimal digits without a leading zero.
+    pub fn number(&mut self, least: u64, most: u64) -> Option<u64>
         ensures takes { Takes (λ n. n) (one (number least most)) self.old self.new result }
         ensures range { IfSome result (λ n. n ≤ most) }
     {
@@ -85,7 +89,7 @@ impl<'a> Words<'a> {
     }
 
     /// The name, and then a number.
-    pub(crate) fn named(&mut self, name: &[u8], least: u64, most: u64) -> Option<u64>
+    pub fn named(&mut self, name: &[u8], least: u64, most: u64) -> Option<u64>
         ensures takes { Takes (λ n. n) (named name.now (one (number least most))) self.old self.new result }
         ensures range { IfSome result (λ n. n ≤ most) }
     {
@@ -93,13 +97,15 @@ impl<'a> Words<'a> {
         self.number(least, most)
     }
 
-    pub(crate) fn number32(&mut self) -> Option<u32>
+    /// A number of 32 bits.
+    pub fn number32(&mut self) -> Option<u32>
         ensures { Takes (λ n. n) (one number32) self.old self.new result }
     {
         Some(self.number(0, 4_294_967_295)? as u32)
     }
 
-    pub(crate) fn named32(&mut self, name: &[u8], least: u64) -> Option<u32>
+    /// The name, and then a number of 32 bits that isn't below this one.
+    pub fn named32(&mut self, name: &[u8], least: u64) -> Option<u32>
         ensures { Takes (λ n. n) (named name.now (one (number least 4294967295))) self.old self.new result }
     {
         Some(self.named(name, least, 4_294_967_295)? as u32)

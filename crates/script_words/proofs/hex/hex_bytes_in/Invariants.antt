@@ -1,7 +1,7 @@
 use Rattle.std.proofs.Common.{length, drop, ◌-◌, ◌≡◌, ◌≤◌}
 use Rattle.script_spec.specs.Words.{hex_bytes}
-use Rattle.script_lines.proofs.HexBytes.{behind}
-use Rattle.script_lines.proofs.values.hex_bytes_in.Given as goal
+use Rattle.script_words.proofs.HexBytes.{behind}
+use Rattle.script_words.proofs.hex.hex_bytes_in.Given as goal
 
 abbrev pub invariant-loop-at : goal.invariant-loop-at
 invariant-loop-at l = record {

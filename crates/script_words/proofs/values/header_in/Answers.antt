@@ -1,6 +1,6 @@
 use Rattle.std.proofs.Common.{◌∙◌, sym}
-use Rattle.script_lines.proofs.Headers.{header_none, header_empty, header_some}
-use Rattle.script_lines.proofs.values.header_in.Goals as goal
+use Rattle.script_words.proofs.Headers.{header_none, header_empty, header_some}
+use Rattle.script_words.proofs.values.header_in.Goals as goal
 
 pub returns-in_err-bytes : goal.returns-in_err-bytes
 returns-in_err-bytes c =

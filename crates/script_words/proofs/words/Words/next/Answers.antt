@@ -2,9 +2,9 @@ use Rattle.std.proofs.Common.{◌≡◌, ◌∙◌, ◌+◌, ◌-◌, ◌∷◌,
 use Rattle.std.specs.Prelude.{option_map}
 use Rattle.std.proofs.lemmas.List.{take_all}
 use Rattle.script_spec.specs.Parts.{split_at}
-use Rattle.script_lines.specs.Taken.{words_in}
-use Rattle.script_lines.proofs.Splits.{split_first, split_last}
-use Rattle.script_lines.proofs.words.Words.next.Goals as goal
+use Rattle.script_words.specs.Taken.{words_in}
+use Rattle.script_words.proofs.Splits.{split_first, split_last}
+use Rattle.script_words.proofs.words.Words.next.Goals as goal
 
 pub returns-then-at-text : goal.returns-then-at-text
 returns-then-at-text c =

@@ -1,5 +1,5 @@
 use Rattle.std.proofs.Common.{◌≡◌, ◌==◌, ℕ, ◌<◌, false, get_or}
-use Rattle.script_lines.proofs.words.length_before.Given as goal
+use Rattle.script_words.proofs.words.length_before.Given as goal
 
 abbrev pub invariant-loop-at : goal.invariant-loop-at
 invariant-loop-at l = (k : ℕ) → k < l.at → (get_or l.text k 0 == l.separator) ≡ false

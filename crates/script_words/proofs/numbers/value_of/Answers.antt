@@ -1,8 +1,8 @@
 use Rattle.std.proofs.Common.{◌≡◌, ◌∙◌, ap}
 use Rattle.script_spec.specs.Words.{is_numeral}
-use Rattle.script_lines.specs.Taken.{value64}
-use Rattle.script_lines.proofs.Numerals.{numeral_parsed, numeral_is_text}
-use Rattle.script_lines.proofs.numbers.value_of.Goals as goal
+use Rattle.script_words.specs.Taken.{value64}
+use Rattle.script_words.proofs.Numerals.{numeral_parsed, numeral_is_text}
+use Rattle.script_words.proofs.numbers.value_of.Goals as goal
 
 pub returns-in-Ok : goal.returns-in-Ok
 returns-in-Ok c =

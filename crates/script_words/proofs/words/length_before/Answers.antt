@@ -1,6 +1,6 @@
 use Rattle.std.proofs.Common.{◌==◌, ℕ, ◌<◌, length, sym, arith, eq-eqb}
 use Rattle.std.proofs.lemmas.List.Sums.{position_or_len_is}
-use Rattle.script_lines.proofs.words.length_before.Goals as goal
+use Rattle.script_words.proofs.words.length_before.Goals as goal
 
 pub returns-then-byte-separator : goal.returns-then-byte-separator
 returns-then-byte-separator c =

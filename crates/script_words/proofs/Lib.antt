@@ -1,0 +1,6 @@
+mod Numerals
+mod Splits
+mod HexBytes
+mod SkipLists
+mod Pushes
+mod Headers
