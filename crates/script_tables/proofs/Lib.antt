@@ -1,0 +1,5 @@
+mod Tests
+mod Owners
+mod OfKind
+mod OfLines
+mod Accepted
