@@ -1,6 +1,9 @@
-//! The set-ups of the sub-agents of a script.
+//! What the lines of a script have set up and sent, in tables, and which line may follow them.
 #![tactic(auto)]
 
 mod laws;
+mod rows;
+mod search;
 
 pub use laws::setups_are_accepted;
+pub use rows::{BootRow, SourceRow, SubRow};
