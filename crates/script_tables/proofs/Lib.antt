@@ -3,3 +3,5 @@ mod Owners
 mod OfKind
 mod OfLines
 mod Accepted
+mod Asked
+mod Follows

@@ -23,7 +23,7 @@ pub record Tells (flow : Bool) (id : ℕ) (source : Source) (count : ℕ) (line 
   pub class : nat_lt 255 source.class ≡ false
   pub room : nat_lt count 1024 ≡ true
 
-kinds_agree : (a b : Bool) → a ≡ b → same_kind a b ≡ true
+pub kinds_agree : (a b : Bool) → a ≡ b → same_kind a b ≡ true
 kinds_agree true true e = refl
 kinds_agree true false e = absurd cc
 kinds_agree false true e = absurd cc

@@ -4,6 +4,8 @@
 mod laws;
 mod rows;
 mod search;
+mod tables;
 
 pub use laws::setups_are_accepted;
 pub use rows::{BootRow, SourceRow, SubRow};
+pub use tables::ScriptTables;
