@@ -1,0 +1,20 @@
+//! The laws. Deliveries have the latest first.
+
+ghost use Rattle.std.specs.Prelude.{List};
+ghost use Rattle.std.specs.Bool.{Decides};
+ghost use Rattle.books_spec.specs.declared.limits.Limits.{Limits};
+ghost use Rattle.account_spec.specs.Histories.{SubAgent};
+ghost use Rattle.account_spec.specs.Deliveries.{Delivery};
+ghost use Rattle.account_spec.specs.Premises.{Visible, Close, Roomy, Apparent};
+ghost use Rattle.trial_spec.specs.PremiseTests.{visible, close, roomy, apparent};
+
+/// Each premise has a test, which is true exactly where the premise holds.
+pub fn premises_have_tests()
+    ensures visible { (l : Limits) (history : List SubAgent) (deliveries : List Delivery)
+        → Decides (visible l history deliveries) (Visible l history deliveries) }
+    ensures close { (l : Limits) (history : List SubAgent) (deliveries : List Delivery)
+        → Decides (close l history deliveries) (Close l history deliveries) }
+    ensures roomy { (l : Limits) (deliveries : List Delivery) → Decides (roomy l deliveries) (Roomy l deliveries) }
+    ensures apparent { (l : Limits) (history : List SubAgent) (deliveries : List Delivery)
+        → Decides (apparent l history deliveries) (Apparent l history deliveries) }
+{}
