@@ -1,0 +1,6 @@
+mod Places
+mod Steps
+pub mod Followed
+mod RouteLists
+mod Cuts
+mod Below
