@@ -1,3 +1,4 @@
 pub mod Accepted
 pub mod Readers
 pub mod Rows
+pub mod WholeRows
