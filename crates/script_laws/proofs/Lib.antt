@@ -4,5 +4,5 @@ mod Numbers
 mod Bytes
 mod Made
 mod Lining
-mod Happens
-mod Lawful
+pub mod Happens
+pub mod Lawful

@@ -1,17 +1,15 @@
 -- What the tables test is what the lines ask.
 use Rattle.std.proofs.Common.{◌≡◌, ◌∙◌, ◌+◌, ◌-◌, ◌≤◌, ◌<◌, ◌==◌, ◌&&◌, ◌||◌, ◌++◌, ℕ, zero, suc, Bool, true, false, not, cond, List, [], ◌∷◌, length, map, reverse, find, filter_map, count_by, is_some, Option, Some, None, refl, ap, sym, subst, arith, if◌then◌else◌, slice_get, option_map, option_and_then}
-use Rattle.std.specs.Prelude.{nat_lt, nat_le}
-use Rattle.std.specs.List.{AllByRecursion, list_any, list_all, cons_option}
+use Rattle.std.specs.Prelude.{nat_le}
+use Rattle.std.specs.List.{AllByRecursion, list_any, cons_option}
 use Rattle.std.specs.Option.{option_map_or}
-use Rattle.std.proofs.lemmas.Bool.{and_from, and_left, and_right, and_parts, eqb-true, eq-eqb, ltb-true, ltb-false, le-leb, leb-true, leb-false, false_from_ne_true, true≢false}
-use Rattle.std.proofs.lemmas.List.{reverse-reverse, length-map, length-reverse, map-append}
+use Rattle.std.proofs.lemmas.Bool.{and_from, and_left, and_right, and_parts, eqb-true, eq-eqb, le-leb, leb-true, leb-false, false_from_ne_true, true≢false}
+use Rattle.std.proofs.lemmas.List.{reverse-reverse, length-map, length-reverse}
 use Rattle.std.proofs.lemmas.List.Sums.{sum_by-cons}
 use Rattle.std.proofs.lemmas.List.Folds.{find-append}
 use Rattle.std.proofs.lemmas.List.Sorted.{list_any-IsPermutation, IsPermutation-reverse}
 use Rattle.std.specs.Option.{option_or}
 use Rattle.std.proofs.lemmas.Option.{same_Some, slice_get-map, slice_get_past, slice_get-get_or}
-use Rattle.data_format.specs.declared.source.SourceId.{SourceId}
-use Rattle.agent_spec.specs.Samples.{Datagram}
 use Rattle.agent_spec.specs.Sources as spec
 use Rattle.agent_spec.specs.Sources.{same_kind}
 use Rattle.script_spec.specs.Lines.{Line, MaxLine, SubLine, FlowLine, CounterLine, PacketLine, PollLine, SendLine, RestartLine, ResetLine, DeliverLine, SubAgent, Delivery}
@@ -21,7 +19,7 @@ use Rattle.script_laws.specs.Written.{may_be_written}
 use Rattle.script_laws.specs.Lawful.{AreLawful}
 use Rattle.script_tables.specs.declared.rows.SourceRow.{SourceRow}
 use Rattle.script_tables.specs.declared.rows.SubRow.{SubRow}
-use Rattle.script_tables.specs.Tables.{TablesState, BootCount, SubCount, row_said, boot_said, sub_said, boot_count, sub_count, Tells, knows, is_row_of, rows_of, has_sent, boots_sent, sub_sent}
+use Rattle.script_tables.specs.Tables.{TablesState, SubCount, row_said, boot_said, sub_said, boot_count, sub_count, Tells, knows, rows_of, has_sent, boots_sent, sub_sent}
 use Rattle.script_tables.proofs.Tests.{any_map, not-false, turned}
 use Rattle.script_tables.proofs.OfLines.{AreApart, subs_are, flow_told, counter_told}
 use Rattle.script_tables.proofs.OfKind.{Tells as TellsLine, kinds_agree}

@@ -1,14 +1,14 @@
 -- Which line may follow, by the tables.
-use Rattle.std.proofs.Common.{◌≡◌, ◌∙◌, ◌==◌, ◌&&◌, ◌||◌, ℕ, Bool, true, false, not, List, [], length, is_some, refl, ap, sym, subst}
+use Rattle.std.proofs.Common.{◌≡◌, ◌∙◌, ◌==◌, ◌&&◌, ℕ, Bool, true, false, not, List, length, refl, ap, sym}
 use Rattle.std.specs.Prelude.{nat_lt}
-use Rattle.std.specs.List.{list_any, list_all}
+use Rattle.std.specs.List.{list_all}
 use Rattle.data_format.specs.declared.source.SourceId.{SourceId}
 use Rattle.agent_spec.specs.Samples.{Packet}
 use Rattle.agent_spec.specs.Sources as spec
 use Rattle.agent_spec.specs.Sources.{same_source}
 use Rattle.script_spec.specs.Lines.{Line, MaxLine, SubLine, FlowLine, CounterLine, PacketLine, PollLine, SendLine, RestartLine, ResetLine, DeliverLine, Delivery, SubAgent, place_of}
-use Rattle.script_spec.specs.Agents.{Owned, subs_in, sources_in, flows_of, counters_of, delivered}
-use Rattle.script_spec.specs.Rules.{sets_up, is_max, is_known, is_free, is_source, is_in_the_way, may_follow}
+use Rattle.script_spec.specs.Agents.{Owned}
+use Rattle.script_spec.specs.Rules.{sets_up, is_known, is_free, is_source, is_in_the_way, may_follow}
 use Rattle.script_laws.specs.Lawful.{AreLawful}
 use Rattle.script_tables.specs.Said.{source_said}
 use Rattle.script_tables.specs.Tables.{TablesState, Tells, knows, has_row, is_free_in, rows_of, sub_sent}

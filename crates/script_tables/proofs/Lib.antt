@@ -5,3 +5,6 @@ mod OfLines
 mod Accepted
 mod Asked
 mod Follows
+mod Steps
+mod GoesOn
+mod SetRows

@@ -1,11 +1,12 @@
 -- The tables of what lines have set up and sent, and what they test. Every list of lines has the LATEST FIRST; rows stand
 -- in the order of their lines.
-use Rattle.std.specs.Prelude.{◌≡◌, ℕ, ◌==◌, ◌&&◌, Bool, true, false, not, cond, List, [], ◌∷◌, length, map, reverse, count_by, nat_le, nat_lt, Option, Some, None}
-use Rattle.std.specs.List.{list_any, list_all}
+use Rattle.std.specs.Prelude.{◌≡◌, ℕ, ◌==◌, ◌&&◌, ◌++◌, Bool, true, false, not, cond, List, [], ◌∷◌, length, map, reverse, set, slice_get, count_by, nat_le, Some}
+use Rattle.std.specs.List.{AllByRecursion, list_any, list_all}
+use Rattle.script_spec.specs.Sent.{sent_count}
 use Rattle.std.specs.Option.{option_map_or}
 use Rattle.data_format.specs.declared.source.SourceId.{SourceId}
 use Rattle.agent_spec.specs.Sources.{same_source, same_kind}
-use Rattle.script_spec.specs.Lines.{Line, SubAgent}
+use Rattle.script_spec.specs.Lines.{Line, PacketLine, PollLine, ResetLine, DeliverLine, SubAgent}
 use Rattle.script_spec.specs.Agents.{Owned, AgentBoot, subs_in, sources_in, boots_of, datagrams_of, numbered}
 use Rattle.script_spec.specs.Rules.{sets_up, is_max, is_in_the_way}
 use Rattle.script_tables.specs.Said.{source_said}
@@ -86,3 +87,37 @@ abbrev pub sub_sent : ℕ → ℕ → ℕ → List SubRow → Bool
 sub_sent id boot number [] = false
 sub_sent id boot number (s ∷ more) =
     cond (s.id == id) (boots_sent (map boot_said s.boots.items) boot number) (sub_sent id boot number more)
+
+-- ---- how they go on
+
+-- one boot more, which has sent nothing
+abbrev pub with_boot : ℕ → SubCount → SubCount
+with_boot at s = record { id = s.id; boots = s.boots ++ record { at = at; sent = 0 } ∷ [] }
+
+-- the newest boot has sent so many datagrams
+abbrev pub last_sent : ℕ → List BootCount → List BootCount
+last_sent sent [] = []
+last_sent sent (b ∷ []) = record { at = b.at; sent = sent } ∷ []
+last_sent sent (b ∷ next ∷ more) = b ∷ last_sent sent (next ∷ more)
+
+abbrev pub with_sent : ℕ → SubCount → SubCount
+with_sent sent s = record { id = s.id; boots = last_sent sent s.boots }
+
+-- of each sub-agent of this ID the newest boot has sent so many datagrams behind the line
+abbrev pub HasSent : ℕ → ℕ → List Line → Line → Type 0
+HasSent id sent lines line =
+    AllByRecursion (λ (s : SubAgent). s.id ≡ id → sent ≡ sent_count (line ∷ lines) s (boots_of (line ∷ lines) s)) (subs_in lines)
+
+-- a line that makes happen what sends nothing and begins no boot
+abbrev pub is_quiet : Line → Bool
+is_quiet (PacketLine p packet) = true
+is_quiet (PollLine id now) = true
+is_quiet (ResetLine source) = true
+is_quiet (DeliverLine d) = true
+is_quiet other = false
+
+-- the counts at a place are set anew
+pub record IsSetAt (with : SubCount → SubCount) (place : ℕ) (old new : List SubRow) : Type 0 where
+  pub count : SubCount
+  pub there : slice_get (map sub_said old) place ≡ Some count
+  pub made : map sub_said new ≡ set (map sub_said old) place (with count)

@@ -1,6 +1,7 @@
 //! What the lines of a script have set up and sent, in tables, and which line may follow them.
 #![tactic(auto)]
 
+mod going_on;
 mod laws;
 mod rows;
 mod search;

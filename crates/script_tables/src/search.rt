@@ -22,7 +22,9 @@ pub(crate) fn has_row(rows: &[SourceRow], flow: bool, source: SourceId) -> bool
     ensures { result ≡ has_row flow source rows.now }
 {
     for row in rows {
-        if row.flow == flow && row.source.class == source.class && row.source.index == source.index
+        if row.flow == flow
+            && row.source.class == source.class
+            && row.source.index == source.index
         {
             return true;
         }

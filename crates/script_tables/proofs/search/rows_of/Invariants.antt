@@ -1,5 +1,5 @@
 -- The rows so far are counted.
-use Rattle.std.proofs.Common.{◌≡◌, ◌≤◌, count_by, take}
+use Rattle.std.proofs.Common.{◌≡◌, take}
 use Rattle.script_tables.specs.Tables.{rows_of}
 use Rattle.script_tables.proofs.search.rows_of.Given as goal
 
