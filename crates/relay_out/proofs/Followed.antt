@@ -45,7 +45,7 @@ by_route_more route (e ∷ before) d = go (takes route e.agent) (by_route_more r
 
 -- ---- what a receiver shows
 
-none_more : (s : ReceiverSeen) → passed_all [] s ≡ s
+pub none_more : (s : ReceiverSeen) → passed_all [] s ≡ s
 none_more s = λ i. record { told = go s.told i; faults = s.faults }
   where
     go : (o : Option ReceiverTold) → (passed_all [] (record { told = o; faults = 0 })).told ≡ o

@@ -1,6 +1,7 @@
 mod Places
 mod Steps
 pub mod Followed
+pub mod Served
 mod RouteLists
 mod Cuts
 mod Below
