@@ -222,10 +222,10 @@ module _ (lines : List Line) (lawful : AreLawful lines) (u t : Setup) (s r : Sub
 
 -- ---- all set-ups
 
-head_is : {X : Type 0} (x y : X) (xs ys : List X) → x ∷ xs ≡ y ∷ ys → x ≡ y
+pub head_is : {X : Type 0} (x y : X) (xs ys : List X) → x ∷ xs ≡ y ∷ ys → x ≡ y
 head_is x y xs ys e = cc
 
-tail_is : {X : Type 0} (x y : X) (xs ys : List X) → x ∷ xs ≡ y ∷ ys → xs ≡ ys
+pub tail_is : {X : Type 0} (x y : X) (xs ys : List X) → x ∷ xs ≡ y ∷ ys → xs ≡ ys
 tail_is x y xs ys e = cc
 
 module _ (lines : List Line) (lawful : AreLawful lines) where

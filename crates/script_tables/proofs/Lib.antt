@@ -8,3 +8,4 @@ mod Follows
 mod Steps
 mod GoesOn
 mod SetRows
+mod Forms

@@ -7,6 +7,6 @@ mod rows;
 mod search;
 mod tables;
 
-pub use laws::setups_are_accepted;
+pub use laws::{one_form, setups_are_accepted};
 pub use rows::{BootRow, SourceRow, SubRow};
 pub use tables::ScriptTables;
