@@ -6,3 +6,4 @@ pub mod Ends
 pub mod CloseTests
 pub mod ApparentTests
 pub mod PremiseTests
+pub mod MadeRuns

@@ -1,12 +1,13 @@
 //! The laws. Deliveries have the latest first.
 
-ghost use Rattle.std.specs.Prelude.{List};
+ghost use Rattle.std.specs.Prelude.{ℕ, List};
 ghost use Rattle.std.specs.Bool.{Decides};
 ghost use Rattle.books_spec.specs.declared.limits.Limits.{Limits};
-ghost use Rattle.account_spec.specs.Histories.{SubAgent};
+ghost use Rattle.account_spec.specs.Histories.{SubAgent, IsHistory};
 ghost use Rattle.account_spec.specs.Deliveries.{Delivery};
 ghost use Rattle.account_spec.specs.Premises.{Visible, Close, Roomy, Apparent};
 ghost use Rattle.trial_spec.specs.PremiseTests.{visible, close, roomy, apparent};
+ghost use Rattle.trial_spec.specs.Made.{made_history};
 
 /// Each premise has a test, which is true exactly where the premise holds.
 pub fn premises_have_tests()
@@ -17,4 +18,9 @@ pub fn premises_have_tests()
     ensures roomy { (l : Limits) (deliveries : List Delivery) → Decides (roomy l deliveries) (Roomy l deliveries) }
     ensures apparent { (l : Limits) (history : List SubAgent) (deliveries : List Delivery)
         → Decides (apparent l history deliveries) (Apparent l history deliveries) }
+{}
+
+/// Whatever the seed and the number of packets, what a made run says is a history.
+pub fn made_runs_are_histories()
+    ensures { (seed packets : ℕ) → IsHistory (made_history seed packets) }
 {}
