@@ -8,3 +8,4 @@ pub mod CanonLaws
 pub mod CheckLaws
 pub mod Items
 pub mod InterfaceTexts
+pub mod HeadlineRows

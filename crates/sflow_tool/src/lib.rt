@@ -3,6 +3,7 @@
 
 mod canon;
 mod check;
+mod delivered;
 mod faults;
 mod interfaces;
 mod laws;
@@ -15,6 +16,7 @@ mod top;
 pub use command_runs::{Line, Status};
 pub use command_words::Command;
 pub use datagram_links::{Link, LinkItem, MemoryLink, SystemClock, UdpLink};
+pub use delivered::{deliveries_have_a_capture, what_is_asked_is_met, what_is_reported};
 pub use flow_collector::{Limits, Seeds};
 pub use laws::{
     canon_is_final, canon_pads_with_zeros, canonical_bytes_are_exact, check_lines_are_exact,
