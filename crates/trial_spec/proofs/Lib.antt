@@ -7,3 +7,4 @@ pub mod CloseTests
 pub mod ApparentTests
 pub mod PremiseTests
 pub mod MadeRuns
+pub mod MadeSent

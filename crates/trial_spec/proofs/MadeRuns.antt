@@ -1,5 +1,5 @@
 -- What happens in a made run may happen.
-use Rattle.std.proofs.Common.{◌≡◌, ℕ, zero, suc, ◌-◌, ◌≤◌, inl, Bool, true, false, cond, List, [], ◌∷◌, ◌++◌, length, map, take, drop, Some, None, arith, refl, sym, subst, length-take}
+use Rattle.std.proofs.Common.{ℕ, zero, suc, ◌-◌, inl, Bool, true, false, cond, List, [], ◌∷◌, ◌++◌, length, take, drop, Some, None, arith, refl, sym, subst, length-take}
 use Rattle.std.specs.Prelude.{reverse, is_none, ◌==◌, ◌&&◌}
 use Rattle.std.specs.declared.option.Option.{Option}
 use Rattle.std.specs.List.{AllByRecursion}
@@ -11,7 +11,7 @@ use Rattle.agent_spec.specs.Boots.{due_sources, happened, MayHappen}
 use Rattle.agent_spec.proofs.Stages.{never-full}
 use Rattle.script_spec.specs.Agents.{counters_at, poll_at, send_at}
 use Rattle.account_spec.specs.Histories.{IsHistory}
-use Rattle.trial_spec.specs.Made.{drawn, next_state, made_setup, Sent, Made, arrives, arrives_times, released_of, released, times_of, decided_by, decided, all_decided, observed, polled, sent_all, restarted, sent_if, restarted_if, with_packet, is_sent, is_last_of_boot, made_until, made, boots_made, made_history, boot_number, sent_so_far, with_event, uptime}
+use Rattle.trial_spec.specs.Made.{drawn, next_state, made_setup, Sent, Made, arrives, arrives_times, released_of, released, times_of, decided_by, decided, all_decided, observed, polled, sent_if, restarted_if, is_sent, is_last_of_boot, made_until, made, made_history, boot_number, sent_so_far, with_event, uptime}
 
 -- ---- what is polled and sent
 
@@ -38,7 +38,7 @@ all-append : {X : Type 0} (P : X → Type 0) (xs ys : List X) → AllByRecursion
 all-append P [] ys h k = k
 all-append P (x ∷ xs) ys h k = (h.0, all-append P xs ys h.1 k)
 
-all-reverse : {X : Type 0} (P : X → Type 0) (xs : List X) → AllByRecursion P xs → AllByRecursion P (reverse xs)
+pub all-reverse : {X : Type 0} (P : X → Type 0) (xs : List X) → AllByRecursion P xs → AllByRecursion P (reverse xs)
 all-reverse P [] h = tt
 all-reverse P (x ∷ xs) h =
     subst (AllByRecursion P) (sym (reverse-append (x ∷ []) xs))

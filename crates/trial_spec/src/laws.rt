@@ -4,10 +4,10 @@ ghost use Rattle.std.specs.Prelude.{ℕ, List};
 ghost use Rattle.std.specs.Bool.{Decides};
 ghost use Rattle.books_spec.specs.declared.limits.Limits.{Limits};
 ghost use Rattle.account_spec.specs.Histories.{SubAgent, IsHistory};
-ghost use Rattle.account_spec.specs.Deliveries.{Delivery};
+ghost use Rattle.account_spec.specs.Deliveries.{Delivery, AreSent};
 ghost use Rattle.account_spec.specs.Premises.{Visible, Close, Roomy, Apparent};
 ghost use Rattle.trial_spec.specs.PremiseTests.{visible, close, roomy, apparent};
-ghost use Rattle.trial_spec.specs.Made.{made_history};
+ghost use Rattle.trial_spec.specs.Made.{made_history, made_deliveries};
 
 /// Each premise has a test, which is true exactly where the premise holds.
 pub fn premises_have_tests()
@@ -20,7 +20,8 @@ pub fn premises_have_tests()
         → Decides (apparent l history deliveries) (Apparent l history deliveries) }
 {}
 
-/// Whatever the seed and the number of packets, what a made run says is a history.
+/// Whatever the seed and the number of packets, what a made run says is a history, and what it delivers was sent.
 pub fn made_runs_are_histories()
-    ensures { (seed packets : ℕ) → IsHistory (made_history seed packets) }
+    ensures history { (seed packets : ℕ) → IsHistory (made_history seed packets) }
+    ensures sent { (seed packets : ℕ) → AreSent (made_history seed packets) (made_deliveries seed packets) }
 {}
