@@ -22,7 +22,7 @@ use Rattle.script_tables.proofs.Tests.{either, any_implies, any_later}
 use Rattle.script_tables.proofs.Owners.{rules_met}
 use Rattle.script_tables.proofs.Accepted.{head_is, tail_is}
 
-any_reverse : {X : Type 0} (q : X → Bool) (xs : List X) → list_any q (reverse xs) ≡ list_any q xs
+pub any_reverse : {X : Type 0} (q : X → Bool) (xs : List X) → list_any q (reverse xs) ≡ list_any q xs
 any_reverse q xs = sym (list_any-IsPermutation q xs (reverse xs) (IsPermutation-reverse xs))
 
 abbrev wide_flow : spec.FlowSetup → Bool
@@ -121,7 +121,7 @@ sub_wide lines (s ∷ subs) e = go (either (wide_in lines s.id) _ e) (sub_wide l
 
 -- ---- a wide source is one of a sub-agent
 
-known_any : (id : ℕ) (xs : List SubAgent) → is_some (find (is_of id) xs) ≡ true → list_any (is_of id) xs ≡ true
+pub known_any : (id : ℕ) (xs : List SubAgent) → is_some (find (is_of id) xs) ≡ true → list_any (is_of id) xs ≡ true
 known_any id [] e = absurd cc
 known_any id (x ∷ more) e = go (is_of id x) e (known_any id more)
   where

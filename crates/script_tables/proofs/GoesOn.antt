@@ -112,7 +112,7 @@ module _ (t : TablesState) (lines : List Line) (tells : Tells t lines) where
     has_max = tells.has_max;
     subs =
         made ∙ ap (λ (cs : List SubCount). set cs k (with_boot at c)) tells.subs
-        ∙ set_at (sub_count lines) (sub_count (RestartLine id at ∷ lines)) id (with_boot at) (λ s. refl)
+        ∙ set_at (λ (c : SubCount). c.id) (sub_count lines) (sub_count (RestartLine id at ∷ lines)) id (with_boot at) (λ s. refl)
         (λ s other. restart_other id at lines s other) (reverse (subs_in lines)) k c (subs_are lines lawful.2).apart
         (all_of (reverse (subs_in lines))) (ap (λ (cs : List SubCount). slice_get cs k) (sym tells.subs) ∙ there) is;
     sources = tells.sources;
@@ -132,7 +132,7 @@ module _ (t : TablesState) (lines : List Line) (tells : Tells t lines) where
     has_max = tells.has_max;
     subs =
         made ∙ ap (λ (cs : List SubCount). set cs k (with_sent sent c)) tells.subs
-        ∙ set_at (sub_count lines) (sub_count (SendLine id now ∷ lines)) id (with_sent sent) (λ s. refl)
+        ∙ set_at (λ (c : SubCount). c.id) (sub_count lines) (sub_count (SendLine id now ∷ lines)) id (with_sent sent) (λ s. refl)
         (λ s other. send_other id now lines s other) (reverse (subs_in lines)) k c (subs_are lines lawful.2).apart
         (all_turned (λ (s : SubAgent). s.id ≡ id → with_sent sent (sub_count lines s) ≡ sub_count (SendLine id now ∷ lines) s)
         (subs_in lines) (all_of (subs_in lines) counts)) (ap (λ (cs : List SubCount). slice_get cs k) (sym tells.subs) ∙ there) is;

@@ -9,3 +9,4 @@ mod Steps
 mod GoesOn
 mod SetRows
 mod Forms
+mod Grow

@@ -16,7 +16,7 @@ use Rattle.script_spec.specs.Agents.{AgentBoot, setup_of, boots_of, boots_after,
 use Rattle.script_spec.specs.Rules.{sets_up}
 use Rattle.script_spec.specs.Sent.{sent_count}
 use Rattle.script_laws.proofs.Happens.{same_setup, none_yet}
-use Rattle.script_tables.specs.Tables.{BootCount, SubCount, sub_count, with_boot, last_sent, with_sent, is_quiet}
+use Rattle.script_tables.specs.Tables.{BootCount, sub_count, with_boot, last_sent, with_sent, is_quiet}
 use Rattle.script_tables.proofs.Tests.{turned}
 use Rattle.script_tables.proofs.OfLines.{AreApart}
 
@@ -229,8 +229,8 @@ pub map_same : {X Y : Type 0} (f g : X → Y) → ((x : X) → f x ≡ g x) → 
 map_same f g h [] = refl
 map_same f g h (x ∷ more) = ap (λ y. y ∷ map f more) (h x) ∙ ap (λ ys. g x ∷ ys) (map_same f g h more)
 
--- the counts of one sub-agent are set anew
-module _ (old new : SubAgent → SubCount) (id : ℕ) (with : SubCount → SubCount) (ids : (s : SubAgent) → (old s).id ≡ s.id)
+-- what is known of one sub-agent is set anew
+module _ {C : Type 0} (id_of : C → ℕ) (old new : SubAgent → C) (id : ℕ) (with : C → C) (ids : (s : SubAgent) → id_of (old s) ≡ s.id)
     (others : (s : SubAgent) → (id == s.id) ≡ false → new s ≡ old s) where
   abbrev IsOwn : SubAgent → Type 0
   IsOwn s = s.id ≡ id → with (old s) ≡ new s
@@ -238,31 +238,31 @@ module _ (old new : SubAgent → SubCount) (id : ℕ) (with : SubCount → SubCo
   all_others : (subs : List SubAgent) → AllByRecursion (λ (s : SubAgent). (id == s.id) ≡ false) subs → map old subs ≡ map new subs
   all_others [] h = refl
   all_others (s ∷ more) h =
-      ap (λ (c : SubCount). c ∷ map old more) (sym (others s h.0)) ∙ ap (λ cs. new s ∷ cs) (all_others more h.1)
+      ap (λ (c : C). c ∷ map old more) (sym (others s h.0)) ∙ ap (λ cs. new s ∷ cs) (all_others more h.1)
 
-  behind : (n : ℕ) (subs : List SubAgent) (k : ℕ) (c : SubCount)
-      → AllByRecursion (λ (t : SubAgent). (n == t.id) ≡ false) subs → slice_get (map old subs) k ≡ Some c → (n == c.id) ≡ false
+  behind : (n : ℕ) (subs : List SubAgent) (k : ℕ) (c : C)
+      → AllByRecursion (λ (t : SubAgent). (n == t.id) ≡ false) subs → slice_get (map old subs) k ≡ Some c → (n == id_of c) ≡ false
   behind n [] k c h at = absurd cc
   behind n (s ∷ more) zero c h at =
-      subst (λ (x : SubCount). (n == x.id) ≡ false) (same_Some _ _ at) (ap (λ (m : ℕ). n == m) (ids s) ∙ h.0)
+      subst (λ (x : C). (n == id_of x) ≡ false) (same_Some _ _ at) (ap (λ (m : ℕ). n == m) (ids s) ∙ h.0)
   behind n (s ∷ more) (suc k) c h at = behind n more k c h.1 at
 
-  pub set_at : (subs : List SubAgent) (k : ℕ) (c : SubCount) → AreApart subs → AllByRecursion IsOwn subs
-      → slice_get (map old subs) k ≡ Some c → c.id ≡ id → set (map old subs) k (with c) ≡ map new subs
+  pub set_at : (subs : List SubAgent) (k : ℕ) (c : C) → AreApart subs → AllByRecursion IsOwn subs
+      → slice_get (map old subs) k ≡ Some c → id_of c ≡ id → set (map old subs) k (with c) ≡ map new subs
   set_at [] k c apart own at is = absurd cc
   set_at (s ∷ more) zero c apart own at is =
       let same : old s ≡ c = same_Some _ _ at in
-      let its : s.id ≡ id = sym (ids s) ∙ ap (λ (x : SubCount). x.id) same ∙ is in
-      ap (λ (x : SubCount). with x ∷ map old more) (sym same) ∙ ap (λ (x : SubCount). x ∷ map old more) (own.0 its)
+      let its : s.id ≡ id = sym (ids s) ∙ ap (λ (x : C). id_of x) same ∙ is in
+      ap (λ (x : C). with x ∷ map old more) (sym same) ∙ ap (λ (x : C). x ∷ map old more) (own.0 its)
       ∙ ap (λ cs. new s ∷ cs)
       (all_others more (subst (λ (n : ℕ). AllByRecursion (λ (t : SubAgent). (n == t.id) ≡ false) more) its apart.0))
   set_at (s ∷ more) (suc k) c apart own at is =
-      ap (λ (x : SubCount). x ∷ set (map old more) k (with c)) (first (id == s.id) refl (behind s.id more k c apart.0 at))
+      ap (λ (x : C). x ∷ set (map old more) k (with c)) (first (id == s.id) refl (behind s.id more k c apart.0 at))
       ∙ ap (λ cs. new s ∷ cs) (set_at more k c apart.1 own.1 at is)
     where
-      first : (b : Bool) → (id == s.id) ≡ b → (s.id == c.id) ≡ false → old s ≡ new s
+      first : (b : Bool) → (id == s.id) ≡ b → (s.id == id_of c) ≡ false → old s ≡ new s
       first true e other =
-          absurd (true≢false (sym (eq-eqb s.id c.id (sym (eqb-true id s.id e) ∙ sym is)) ∙ other))
+          absurd (true≢false (sym (eq-eqb s.id (id_of c) (sym (eqb-true id s.id e) ∙ sym is)) ∙ other))
       first false e other = sym (others s e)
 
 -- ---- lines that set up leave the counts

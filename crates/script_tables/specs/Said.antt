@@ -1,5 +1,6 @@
 -- The set-ups of the sub-agents that lines set up. Every list of lines has the LATEST FIRST; set-ups stand in their order.
-use Rattle.std.specs.Prelude.{◌≡◌, ℕ, Bool, true, false, List, map, reverse}
+use Rattle.std.specs.Prelude.{◌≡◌, ℕ, ◌==◌, ◌++◌, Bool, true, false, List, [], ◌∷◌, map, reverse, set, slice_get, Some}
+use Rattle.std.specs.List.{list_any}
 use Rattle.wire_spec.specs.Heads.{AgentAddress}
 use Rattle.data_format.specs.Addresses.{address_of}
 use Rattle.data_format.specs.declared.source.SourceId.{SourceId}
@@ -72,3 +73,31 @@ AreSetUp lines setups = map setup_said setups ≡ said_in lines
 abbrev pub form_said : Form → spelled.Form
 form_said Compact = spelled.Compact
 form_said Expanded = spelled.Expanded
+
+-- ---- set-ups that grow
+
+-- the most bytes of a datagram so far, and the set-ups so far
+pub record SetupsState : Type 0 where
+  pub max : ℕ
+  pub setups : List Setup
+
+-- they are those of these lines
+pub record SetsUp (t : SetupsState) (lines : List Line) : Type 0 where
+  pub max : t.max ≡ max_of lines
+  pub setups : AreSetUp lines t.setups
+
+abbrev pub with_flow : spec.FlowSetup → Said → Said
+with_flow f s = record s { flows = s.flows ++ f ∷ [] }
+
+abbrev pub with_counter : spec.CounterSetup → Said → Said
+with_counter c s = record s { counters = s.counters ++ c ∷ [] }
+
+-- one of the set-ups has this ID
+abbrev pub names : ℕ → List Setup → Bool
+names id setups = list_any (λ (u : Setup). u.sub_agent == id) setups
+
+-- what is said at a place is set anew
+pub record IsSaidAt (with : Said → Said) (place : ℕ) (old new : List Setup) : Type 0 where
+  pub said : Said
+  pub there : slice_get (map setup_said old) place ≡ Some said
+  pub made : map setup_said new ≡ set (map setup_said old) place (with said)

@@ -5,8 +5,14 @@ mod going_on;
 mod laws;
 mod rows;
 mod search;
+mod setups;
 mod tables;
 
+pub use agent_setups::{CounterSetup, FlowSetup, Setup};
 pub use laws::{one_form, setups_are_accepted};
 pub use rows::{BootRow, SourceRow, SubRow};
+pub use setups::ScriptSetups;
 pub use tables::ScriptTables;
+
+#[cfg(test)]
+mod tests;
