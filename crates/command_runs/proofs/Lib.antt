@@ -2,6 +2,7 @@ pub mod Walked
 pub mod Ends
 pub mod ReadRuns
 pub mod CaptureRuns
+pub mod Visited
 pub mod EntryWalks
 pub mod OneEnding
 pub mod EveryEnding

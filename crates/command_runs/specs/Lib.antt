@@ -4,6 +4,7 @@ pub mod Lines
 pub mod Tasks
 pub mod Outside
 pub mod Walks
+pub mod Visits
 pub mod Statuses
 pub mod Endings
 pub mod Readings
