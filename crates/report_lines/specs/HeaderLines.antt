@@ -28,3 +28,15 @@ class_text c = if nat_eq (headers_counted c) 0 then [] else class_line c
 -- the line of each of these consumers, by what each prints
 abbrev pub tap_texts : {X : Type 0} → (X → List ℕ) → List X → List ℕ
 tap_texts text held = flat_map (λ x. text x ++ codes "\n") held
+
+-- what consumers show: the lines of those that are held, and how many were dropped as done
+pub record ShownTaps : Type 0 where
+  pub lines : List ℕ
+  pub ended : ℕ
+
+abbrev pub shown_taps : {X : Type 0} → (X → List ℕ) → List X → ℕ → ShownTaps
+shown_taps text held ended = record { lines = tap_texts text held; ended = ended }
+
+-- what none show
+abbrev pub no_taps : ShownTaps
+no_taps = record { lines = []; ended = 0 }

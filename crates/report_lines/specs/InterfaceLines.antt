@@ -1,7 +1,10 @@
--- The lines of interfaces, and the report with them. Each line ends with a line feed.
+-- The lines of interfaces, and the whole report. Each line ends with a line feed.
 use Rattle.std.specs.Prelude.{ℕ, Bool, true, false, Option, Some, None, List, [], ◌∷◌, ◌++◌, codes, decimal, flat_map, slice_index}
 use Rattle.std.specs.List.{concat}
 use Rattle.books_spec.specs.WholeBooks.{WholeBooks, InterfaceLine}
+use Rattle.books_spec.specs.declared.totals.Totals.{Totals}
+use Rattle.sample_taps.specs.declared.class_totals.ClassTotals.{ClassTotals}
+use Rattle.report_lines.specs.HeaderLines.{ShownTaps, class_text}
 use Rattle.report_lines.specs.Reports.{stream_texts, source_texts, end_text}
 
 -- by how much this counter rose, counted from 0
@@ -44,7 +47,14 @@ abbrev pub lines_if : Bool → List InterfaceLine → List ℕ
 lines_if false interfaces = []
 lines_if true interfaces = interface_texts interfaces
 
--- the report of these books, with the lines of interfaces behind those of all sources where they are asked for
-unfoldable pub report_with : Bool → WholeBooks → List ℕ
-report_with interfaces b =
-    stream_texts 1 b.streams ++ (source_texts b.sources ++ (lines_if interfaces b.interfaces ++ end_text b.totals))
+-- what stands behind the lines of streams, sources and interfaces: the line of the classes of headers, those of the
+-- consumers, and the end
+abbrev pub tail_text : Totals → ClassTotals → ShownTaps → List ℕ
+tail_text t classes taps = class_text classes ++ (taps.lines ++ end_text t taps.ended)
+
+-- the report of these books, of the classes of the headers that count, and of the consumers, with the lines of interfaces
+-- behind those of all sources where they are asked for
+unfoldable pub report_with : Bool → WholeBooks → ClassTotals → ShownTaps → List ℕ
+report_with interfaces b classes taps =
+    stream_texts 1 b.streams
+    ++ (source_texts b.sources ++ (lines_if interfaces b.interfaces ++ tail_text b.totals classes taps))

@@ -81,12 +81,13 @@ abbrev pub first_fault_text : Option FirstFault → List ℕ
 first_fault_text None = []
 first_fault_text (Some f) = fault_line f.entry f.fault
 
--- the last line
-unfoldable pub total_text : Totals → List ℕ
-total_text t = concat (
+-- the last line, where so many consumers were dropped as done
+unfoldable pub total_text : Totals → ℕ → List ℕ
+total_text t ended = concat (
     codes "total entries " ∷ decimal t.entries ∷
     codes " malformed " ∷ decimal t.malformed ∷
     codes " unlisted " ∷ decimal t.unlisted ∷
     codes " unlisted_samples " ∷ decimal t.unlisted_samples ∷
     codes " other " ∷ decimal t.other ∷
-    codes " taps_ended 0\n" ∷ [])
+    codes " taps_ended " ∷ decimal ended ∷
+    codes "\n" ∷ [])

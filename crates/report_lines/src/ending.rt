@@ -8,14 +8,20 @@ use collector_views::{FirstFault, Totals};
 use data_format::Fault;
 use text_lines::{Page, Piece};
 
-/// Puts the line of the first fault, where an entry was malformed, and the line of totals.
+/// Puts the line of the first fault, where an entry was malformed, and the line of totals, with how many consumers were
+/// dropped as done.
 /// `Failed` is the sink's own; then the sink has taken a prefix of what the page held and these lines.
-pub fn put_end<K: Sink>(page: &mut Page, sink: &mut K, totals: &Totals) -> Result<(), Failed>
+pub fn put_end<K: Sink>(
+    page: &mut Page,
+    sink: &mut K,
+    totals: &Totals,
+    ended: u64,
+) -> Result<(), Failed>
     ensures { Prints (K.seen sink.old) (K.seen sink.new) page.old page.new result
-        (end_text totals.now) }
+        (end_text totals.now ended) }
 {
     put_first_fault(page, sink, &totals.first_fault)?;
-    put_total(page, sink, totals)
+    put_total(page, sink, totals, ended)
 }
 
 /// Puts the line of the first fault; nothing where no entry was malformed.
@@ -56,12 +62,17 @@ fn put_fault<K: Sink>(
     page.put_line(sink, &pieces)
 }
 
-/// Puts the line of totals, which is the last one. No taps are there, so none has ended.
+/// Puts the line of totals, which is the last one, with how many consumers were dropped as done.
 /// `Failed` is the sink's own; then the sink has taken a prefix of what the page held and the line.
 #[tactic(auto, unfolding(crate::specs::Lines::total_text))]
-pub fn put_total<K: Sink>(page: &mut Page, sink: &mut K, totals: &Totals) -> Result<(), Failed>
+pub fn put_total<K: Sink>(
+    page: &mut Page,
+    sink: &mut K,
+    totals: &Totals,
+    ended: u64,
+) -> Result<(), Failed>
     ensures { Prints (K.seen sink.old) (K.seen sink.new) page.old page.new result
-        (total_text totals.now) }
+        (total_text totals.now ended) }
 {
     let pieces = [
         Piece::Text("total entries "),
@@ -74,7 +85,9 @@ pub fn put_total<K: Sink>(page: &mut Page, sink: &mut K, totals: &Totals) -> Res
         Piece::Number(totals.unlisted_samples as u128),
         Piece::Text(" other "),
         Piece::Number(totals.other as u128),
-        Piece::Text(" taps_ended 0\n"),
+        Piece::Text(" taps_ended "),
+        Piece::Number(ended as u128),
+        Piece::Text("\n"),
     ];
     page.put_line(sink, &pieces)
 }
