@@ -6,3 +6,4 @@ mod Made
 mod Lining
 pub mod Happens
 pub mod Lawful
+mod Nexts
