@@ -20,11 +20,11 @@ use Rattle.script_spec.specs.Agents.{Owned, sources_in, subs_in, flow_in, counte
 use Rattle.agent_spec.specs.Sources.{same_kind}
 use Rattle.script_laws.specs.Lawful.{AreLawful}
 use Rattle.script_tables.specs.Said.{flow_said, counter_said, setup_said, said_of, AreSetUp}
-use Rattle.script_tables.proofs.Tests.{either, none_then, any_implies, none_turned, any_turned, any_map, found_in, same_at, same_at-self, is_one, some_twice}
+use Rattle.script_tables.proofs.ListTests.{either, none_then, any_implies, none_turned, any_turned, any_map, found_in, same_at, same_at-self, is_one, some_twice}
 use Rattle.script_tables.proofs.Owners.{owns, one_owner}
 use Rattle.script_tables.proofs.OfKind.{owns_kind, each_of, is_owned, none_twice, few, classes}
 use Rattle.script_tables.proofs.OfLines.{flow_told, flow_rate, counter_told, counter_time, IsStage, AreApart, subs_are, max_is}
-use Rattle.script_tables.proofs.Tests.{none_of, one_any}
+use Rattle.script_tables.proofs.ListTests.{none_of, one_any}
 
 -- ---- tests over the sources of a set-up
 

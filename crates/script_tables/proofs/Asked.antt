@@ -20,7 +20,7 @@ use Rattle.script_laws.specs.Lawful.{AreLawful}
 use Rattle.script_tables.specs.declared.rows.SourceRow.{SourceRow}
 use Rattle.script_tables.specs.declared.rows.SubRow.{SubRow}
 use Rattle.script_tables.specs.Tables.{TablesState, SubCount, row_said, boot_said, sub_said, boot_count, sub_count, Tells, knows, rows_of, has_sent, boots_sent, sub_sent}
-use Rattle.script_tables.proofs.Tests.{any_map, not-false, turned}
+use Rattle.script_tables.proofs.ListTests.{any_map, not-false, turned}
 use Rattle.script_tables.proofs.OfLines.{AreApart, subs_are, flow_told, counter_told}
 use Rattle.script_tables.proofs.OfKind.{Tells as TellsLine, kinds_agree}
 

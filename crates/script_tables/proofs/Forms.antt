@@ -18,7 +18,7 @@ use Rattle.script_spec.specs.Agents.{sources_in, subs_in, is_of, flow_in, counte
 use Rattle.script_spec.specs.Rules.{is_known}
 use Rattle.script_laws.specs.Lawful.{AreLawful}
 use Rattle.script_tables.specs.Said.{flow_said, counter_said, setup_said, said_of, AreSetUp, form_said}
-use Rattle.script_tables.proofs.Tests.{either, any_implies, any_later}
+use Rattle.script_tables.proofs.ListTests.{either, any_implies, any_later}
 use Rattle.script_tables.proofs.Owners.{rules_met}
 use Rattle.script_tables.proofs.Accepted.{head_is, tail_is}
 

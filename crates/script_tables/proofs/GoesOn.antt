@@ -12,7 +12,7 @@ use Rattle.script_laws.proofs.Happens.{in_order}
 use Rattle.script_tables.specs.declared.rows.SourceRow.{SourceRow}
 use Rattle.script_tables.specs.declared.rows.SubRow.{SubRow}
 use Rattle.script_tables.specs.Tables.{TablesState, SubCount, row_said, sub_said, sub_count, Tells, with_boot, with_sent, HasSent, is_quiet}
-use Rattle.script_tables.proofs.Tests.{turned, all_turned}
+use Rattle.script_tables.proofs.ListTests.{turned, all_turned}
 use Rattle.script_tables.proofs.OfLines.{subs_are}
 use Rattle.script_tables.proofs.Steps.{fresh, setup_count, quiet_count, quiet_runs, restart_own, restart_other, send_own, send_other, map_same, set_at}
 

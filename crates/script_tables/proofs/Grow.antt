@@ -12,7 +12,7 @@ use Rattle.script_spec.specs.Agents.{subs_in, is_of, flow_in, flows_of, counter_
 use Rattle.script_spec.specs.Rules.{is_known}
 use Rattle.script_laws.specs.Lawful.{AreLawful}
 use Rattle.script_tables.specs.Said.{Said, setup_said, said_of, SetupsState, SetsUp, names, with_flow, with_counter, IsSaidAt}
-use Rattle.script_tables.proofs.Tests.{any_map, not-false, turned}
+use Rattle.script_tables.proofs.ListTests.{any_map, not-false, turned}
 use Rattle.script_tables.proofs.Owners.{rules_met}
 use Rattle.script_tables.proofs.OfLines.{subs_are}
 use Rattle.script_tables.proofs.Steps.{set_at}

@@ -1,4 +1,4 @@
-mod Tests
+mod ListTests
 mod Owners
 mod OfKind
 mod OfLines

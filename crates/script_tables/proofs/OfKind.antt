@@ -12,7 +12,7 @@ use Rattle.script_spec.specs.Agents.{Owned, owned_in, sources_in, same_place}
 use Rattle.script_spec.specs.Rules.{is_in_the_way, is_free, may_follow}
 use Rattle.script_laws.specs.Written.{may_be_written}
 use Rattle.script_laws.specs.Lawful.{AreLawful}
-use Rattle.script_tables.proofs.Tests.{either, not-false, any_implies, any_later, none_turned, turned, same_at, same_at-eq, same_at-self, is_one, some_twice, twice_end, one_any}
+use Rattle.script_tables.proofs.ListTests.{either, not-false, any_implies, any_later, none_turned, turned, same_at, same_at-eq, same_at-self, is_one, some_twice, twice_end, one_any}
 use Rattle.script_tables.proofs.Owners.{owns}
 
 -- what a line that sets a source of this kind up tells of it

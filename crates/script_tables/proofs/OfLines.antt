@@ -13,7 +13,7 @@ use Rattle.script_spec.specs.Agents.{sub_in, subs_in, is_of, flow_in, flows_of, 
 use Rattle.script_spec.specs.Rules.{may_follow, is_known}
 use Rattle.script_laws.specs.Written.{may_be_written}
 use Rattle.script_laws.specs.Lawful.{AreLawful}
-use Rattle.script_tables.proofs.Tests.{not-false, turned, all_turned, all_end}
+use Rattle.script_tables.proofs.ListTests.{not-false, turned, all_turned, all_end}
 use Rattle.script_tables.proofs.Owners.{rules_met}
 use Rattle.script_tables.proofs.OfKind.{Tells}
 

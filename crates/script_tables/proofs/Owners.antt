@@ -8,7 +8,7 @@ use Rattle.script_spec.specs.Lines.{Line, MaxLine, SubLine, FlowLine, CounterLin
 use Rattle.script_spec.specs.Agents.{Owned, sources_in, same_place}
 use Rattle.script_spec.specs.Rules.{stands_in_order, meets_rules, may_follow, is_in_the_way, is_free}
 use Rattle.script_laws.specs.Lawful.{AreLawful}
-use Rattle.script_tables.proofs.Tests.{either, not-false, any_implies, same_at-eq, same_at-self}
+use Rattle.script_tables.proofs.ListTests.{either, not-false, any_implies, same_at-eq, same_at-self}
 
 -- the place is one of a source of this sub-agent
 abbrev pub owns : ℕ → Place → Owned → Bool

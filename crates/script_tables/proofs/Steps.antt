@@ -17,7 +17,7 @@ use Rattle.script_spec.specs.Rules.{sets_up}
 use Rattle.script_spec.specs.Sent.{sent_count}
 use Rattle.script_laws.proofs.Happens.{same_setup, none_yet}
 use Rattle.script_tables.specs.Tables.{BootCount, sub_count, with_boot, last_sent, with_sent, is_quiet}
-use Rattle.script_tables.proofs.Tests.{turned}
+use Rattle.script_tables.proofs.ListTests.{turned}
 use Rattle.script_tables.proofs.OfLines.{AreApart}
 
 -- ---- counts by a set-up
