@@ -3,3 +3,4 @@ pub mod Kept
 pub mod Lawful
 pub mod Shown
 pub mod Read
+pub mod MadeAccepted

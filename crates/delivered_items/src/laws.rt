@@ -1,6 +1,6 @@
 //! The laws. Deliveries have the latest first.
 
-ghost use Rattle.std.specs.Prelude.{◌≡◌, ◌≤◌, List, length, map, Ok};
+ghost use Rattle.std.specs.Prelude.{◌≡◌, ◌≤◌, ℕ, List, length, map, Ok};
 ghost use Rattle.wire_spec.specs.declared.pad.Pad.TheVariants.{Any};
 ghost use Rattle.wire_spec.specs.Shapes.{Tree, Trees};
 ghost use Rattle.wire_spec.specs.Captures.{Entry};
@@ -13,6 +13,7 @@ ghost use Rattle.account_spec.specs.Deliveries.{Delivery, AreSent, Delivers, ent
 ghost use Rattle.delivered_items.specs.Accepted.{AreAccepted};
 ghost use Rattle.delivered_items.specs.Readers.{IsReader, entry_item};
 ghost use Rattle.std.specs.List.{AllByRecursion};
+ghost use Rattle.trial_spec.specs.Made.{made_history};
 
 /// The bytes of each datagram that was delivered are at most 65,535, and are read as the value that was sent.
 pub fn what_was_sent_is_read()
@@ -31,4 +32,9 @@ pub fn entries_are_the_deliveries()
     ensures { (read : Tree → Sample) (reads : Trees → List Sample) (history : List SubAgent) (deliveries : List Delivery)
         (entries : List Entry) → IsReader read reads → IsHistory history → AreAccepted history
         → Delivers history deliveries entries → map (entry_item reads) entries ≡ map item deliveries }
+{}
+
+/// An agent's calls take what happens in a made run of at most 10,000,000 packets.
+pub fn made_runs_are_accepted()
+    ensures { (seed packets : ℕ) → packets ≤ 10000000 → AreAccepted (made_history seed packets) }
 {}
