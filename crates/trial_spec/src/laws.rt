@@ -1,11 +1,11 @@
 //! The laws. Deliveries have the latest first.
 
-ghost use Rattle.std.specs.Prelude.{ℕ, List};
+ghost use Rattle.std.specs.Prelude.{◌≡◌, ℕ, true, List};
 ghost use Rattle.std.specs.Bool.{Decides};
 ghost use Rattle.books_spec.specs.declared.limits.Limits.{Limits};
 ghost use Rattle.account_spec.specs.Histories.{SubAgent, IsHistory};
 ghost use Rattle.account_spec.specs.Deliveries.{Delivery, AreSent};
-ghost use Rattle.account_spec.specs.Premises.{Visible, Close, Roomy, Apparent};
+ghost use Rattle.account_spec.specs.Premises.{Visible, Close, Roomy, Apparent, Premises};
 ghost use Rattle.trial_spec.specs.PremiseTests.{visible, close, roomy, apparent};
 ghost use Rattle.trial_spec.specs.Made.{made_history, made_deliveries};
 
@@ -25,3 +25,12 @@ pub fn made_runs_are_histories()
     ensures history { (seed packets : ℕ) → IsHistory (made_history seed packets) }
     ensures sent { (seed packets : ℕ) → AreSent (made_history seed packets) (made_deliveries seed packets) }
 {}
+
+/// Of a history and what was sent of it, the premises hold where the four tests are true.
+pub fn four_tests_are_the_premises()
+    ensures { (l : Limits) (history : List SubAgent) (deliveries : List Delivery) → IsHistory history
+        → AreSent history deliveries → visible l history deliveries ≡ true → close l history deliveries ≡ true
+        → roomy l deliveries ≡ true → apparent l history deliveries ≡ true → Premises l history deliveries }
+{
+    premises_have_tests();
+}
