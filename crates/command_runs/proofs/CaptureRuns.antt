@@ -1,7 +1,6 @@
 -- Runs of a command over a capture, whose visitor does what the command's row says.
-use Rattle.std.proofs.Common.{◌≡◌, ◌≢◌, ℕ, Bool, true, inl, inr, if◌then◌else◌, nat_lt, List, [], ◌++◌, Option, Some, None, Result, Ok, Err, refl, sym, ap, subst, ◌∙◌}
+use Rattle.std.proofs.Common.{◌≡◌, ◌≢◌, ℕ, true, inl, inr, if◌then◌else◌, nat_lt, List, [], ◌++◌, Option, Some, None, Result, Ok, Err, refl, sym, ap, subst, ◌∙◌}
 use Rattle.std.specs.Io.KnownBytes.{IsAtEnd}
-use Rattle.std.specs.List.{count_by}
 use Rattle.std.proofs.lemmas.List.Elements.{All-nil}
 use Rattle.byte_ends.specs.Seen.{Seen, TakesPart}
 use Rattle.capture_spec.specs.declared.capture_version.CaptureVersion.{CaptureVersion}
@@ -23,7 +22,7 @@ use Rattle.command_runs.specs.Lines.{lines_of}
 use Rattle.command_runs.specs.Outside.{Outside}
 use Rattle.command_runs.specs.Readings.{ReadsTo}
 use Rattle.command_runs.specs.Runs.{Runs}
-use Rattle.command_runs.specs.Tasks.{AreOf, Does, KeepsLines, Task}
+use Rattle.command_runs.specs.Tasks.{AreOf, Does, Task}
 use Rattle.command_runs.specs.Walks.{AreCounts, HasWalkCause, Moved, VisitFailed, VisitedAll, VisitedSome}
 use Rattle.command_runs.proofs.Ends.{flushed_after, flushed_more}
 use Rattle.command_runs.proofs.ReadRuns as runs
@@ -70,17 +69,8 @@ refusal_cause source source' r cause = record {
   kept = λ other. cause.kept (λ e. other cc);
 }
 
--- the entries that are marked stay the same
-pub counts_by : (t t' : Task) (entries : List Received) (counts : Counts) → KeepsLines t t' → AreCounts t entries counts
-    → AreCounts t' entries counts
-counts_by t t' entries counts keeps counted = record {
-  entries_are = counted.entries_are;
-  marked_are = counted.marked_are ∙ ap (λ (marks : Received → Bool). count_by marks entries) (sym keeps.marks_kept);
-}
-
--- the visitor began with one task and was left with the other, which does what the row says
-module _ (a : Act Capture) (t t' : Task) (keeps : KeepsLines t t') (does : Does t' a)
-    (source source' sink sink' sink'' : Seen) (page held : List ℕ) (empty : page ≡ []) where
+module _ (a : Act Capture) (t : Task) (does : Does t a) (source source' sink sink' sink'' : Seen)
+    (page held : List ℕ) (empty : page ≡ []) where
   abbrev before : Outside
   before = record { source = source; sink = sink }
 
@@ -100,16 +90,11 @@ module _ (a : Act Capture) (t t' : Task) (keeps : KeepsLines t t') (does : Does 
   part_put : (entries : List Received) → AreOfOne entries
       → page ++ lines_of t.line 1 entries ≡ a.part (some_capture entries)
   part_put entries are =
-      ap (λ l. l ++ lines_of t.line 1 entries) empty
-      ∙ ap (λ (line : ℕ → Received → List ℕ). lines_of line 1 entries) (sym keeps.line_kept)
-      ∙ does.parts are.0 (some_capture entries) are.1
+      ap (λ l. l ++ lines_of t.line 1 entries) empty ∙ does.parts are.0 (some_capture entries) are.1
 
   whole_put : (c : Capture) → AreOf c.version c.entries
-      → page ++ (lines_of t.line 1 c.entries ++ t'.last c) ≡ a.whole c
-  whole_put c are =
-      ap (λ l. l ++ (lines_of t.line 1 c.entries ++ t'.last c)) empty
-      ∙ ap (λ (line : ℕ → Received → List ℕ). lines_of line 1 c.entries ++ t'.last c) (sym keeps.line_kept)
-      ∙ does.whole c are
+      → page ++ (lines_of t.line 1 c.entries ++ t.last c) ≡ a.whole c
+  whole_put c are = ap (λ l. l ++ (lines_of t.line 1 c.entries ++ t.last c)) empty ∙ does.whole c are
 
   -- a write failed at an entry
   pub write_failed : VisitFailed t source moved → Cause (Err stops.Write)
@@ -120,13 +105,12 @@ module _ (a : Act Capture) (t t' : Task) (keeps : KeepsLines t t') (does : Does 
       (cause.kept (λ e. cc)) seen.put
 
   -- reading was refused
-  pub refused : (visits : List Received → Type 0) (refusal : ReadRefusal) (status result : Status)
-      → status ≡ refusal_status refusal
-      → VisitedSome t visits source source' moved refusal → Cause (Err (stops.Read refusal))
+  pub refused : (refusal : ReadRefusal) (status result : Status) → status ≡ refusal_status refusal
+      → VisitedSome t source source' moved refusal → Cause (Err (stops.Read refusal))
       → Flushed sink' sink'' held status result
-      → (t'.waits ≡ true → (result ≡ status) × (sink''.told ≡ sink.told))
+      → (t.waits ≡ true → (result ≡ status) × (sink''.told ≡ sink.told))
       → Runs captures a before after result
-  refused visits refusal status result named seen cause flush waits =
+  refused refusal status result named seen cause flush waits =
       runs.refused captures a before after (some_capture seen.entries) _ refusal result
       (λ input are told. ends_so a One seen.version seen.entries input source'.told refusal (seen.ends input are told))
       (λ input are told. part_put seen.entries
@@ -136,22 +120,24 @@ module _ (a : Act Capture) (t t' : Task) (keeps : KeepsLines t t') (does : Does 
       (λ late. ((waits (does.waits late)).0 ∙ named, (waits (does.waits late)).1))
 
   -- all entries were visited
-  module _ (visits : List Received → Type 0) (counts : Counts) (seen : VisitedAll t visits source moved counts)
+  module _ (visited : List Received → Type 0) (counts : Counts) (seen : VisitedAll t visited source moved counts)
       (at_end : IsAtEnd source'.told) (cause : Cause (Ok counts)) where
     abbrev whole_capture : Capture
     whole_capture = capture_of counts.version seen.entries
 
-    recounted : AreCounts t' seen.entries counts
-    recounted = counts_by t t' seen.entries counts keeps seen.counted
-
-    pub finished : (result : Status)
+    pub finished : (t' : Task) → t' ≡ t → (result : Status)
         → (AreCounts t' seen.entries counts
         → Flushed sink' sink'' (held ++ t'.last whole_capture) (counted_status counts) result)
         → Runs captures a before after result
-    finished result flushes =
+    finished t' same result flushes =
+        let flush =
+        subst
+        (λ (u : Task). AreCounts u seen.entries counts
+        → Flushed sink' sink'' (held ++ u.last whole_capture) (counted_status counts) result)
+        same flushes seen.counted in
         runs.finished captures a before after whole_capture _ seen.all
         (λ input are told. whole_put whole_capture (seen.all input are told).capture.each)
         (does.may whole_capture) at_end
         (cause.kept (λ e. cc)) (nat_lt 0 counts.marked) result
-        (sym (does.finds whole_capture) ∙ ap (nat_lt 0) (sym recounted.marked_are))
-        (flushed_more sink sink' sink'' page held _ (counted_status counts) (counted_status counts) result seen.put refl _ (flushes recounted))
+        (sym (does.finds whole_capture) ∙ ap (nat_lt 0) (sym seen.counted.marked_are))
+        (flushed_more sink sink' sink'' page held _ (counted_status counts) (counted_status counts) result seen.put refl _ flush)

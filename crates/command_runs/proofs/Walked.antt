@@ -20,7 +20,7 @@ use Rattle.byte_ends.specs.Seen.{Seen, TakesPart}
 use Rattle.text_lines.specs.Pages.{Puts}
 use Rattle.text_lines.proofs.PageLaws.{puts_none, puts_both, puts_part}
 use Rattle.command_runs.specs.Lines.{lines_of}
-use Rattle.command_runs.specs.Tasks.{KeepsLines, Task}
+use Rattle.command_runs.specs.Tasks.{Task}
 use Rattle.command_runs.specs.Walks.{IsFresh, Moved, PutsLines, VisitFailed, version_said}
 
 -- ---- lines
@@ -42,19 +42,19 @@ count_by-push marks xs x = fold_push (λ n y. n + cond (marks y) 1 0) 0 xs x
 -- ---- where a walk stands
 
 -- of what the source told these entries were read, they were visited, and their lines were put
-pub record SoFar (t : Task) (visits : List Received → Type 0) (source source' : Seen) (m : Moved)
+pub record SoFar (t : Task) (visited : List Received → Type 0) (source source' : Seen) (m : Moved)
     (reader : ReaderState) (count marked : ℕ) : Type 0 where
   pub entries : List Received
   pub given : (input : List ℕ) → AreBytes input → source.told ≡ Some input → HasGiven input entries reader source'
   pub number : count ≡ length entries
   pub marked_are : marked ≡ count_by t.marks entries
-  pub were : visits entries
+  pub were : visited entries
   pub put : PutsLines t m entries
 
-pub nothing_yet : (t : Task) (visits : List Received → Type 0) (source sink : Seen) (page : List ℕ)
-    (reader : ReaderState) → IsFresh reader → visits []
-    → SoFar t visits source source (record { sink = sink; sink' = sink; page = page; page' = page }) reader 0 0
-nothing_yet t visits source sink page reader fresh none = record {
+pub nothing_yet : (t : Task) (visited : List Received → Type 0) (source sink : Seen) (page : List ℕ)
+    (reader : ReaderState) → IsFresh reader → visited []
+    → SoFar t visited source source (record { sink = sink; sink' = sink; page = page; page' = page }) reader 0 0
+nothing_yet t visited source sink page reader fresh none = record {
   entries = [];
   given = λ input are is.
       let start : HasGiven input [] (record { stage = stage.Start; held = [] }) source =
@@ -108,9 +108,9 @@ all_given input entries before after more left number version going moved given 
 
 -- ---- a further entry
 
-module _ (t : Task) (visits visits' : List Received → Type 0) (source now now' a b : Seen)
+module _ (t : Task) (visited visited' : List Received → Type 0) (source now now' a b : Seen)
     (p q : List ℕ) (reader reader' : ReaderState) (count marked at : ℕ) (from : Option Sender) (len : ℕ) (room : List ℕ)
-    (far : SoFar t visits source now (record { sink = a; sink' = b; page = p; page' = q }) reader count marked)
+    (far : SoFar t visited source now (record { sink = a; sink' = b; page = p; page' = q }) reader count marked)
     (given : (bytes : List ℕ) (entries : List Received) → AreBytes bytes → HasGiven bytes entries reader now
     → HasGiven bytes (with_answer entries room (Ok (next.Entry at from len))) reader' now') where
   abbrev pub entry : Received
@@ -124,10 +124,10 @@ module _ (t : Task) (visits visits' : List Received → Type 0) (source now now'
       lines-push t.line 1 far.entries entry
       ∙ ap (λ n. lines_of t.line 1 far.entries ++ t.line n entry) (omega (arith, far.number))
 
-  pub one_more : (c : Seen) (r : List ℕ) (marked' : ℕ) → visits' entries
+  pub one_more : (c : Seen) (r : List ℕ) (marked' : ℕ) → visited' entries
       → Puts b c q r (t.line (count + 1) entry)
       → marked' ≡ marked + cond (t.marks entry) 1 0
-      → SoFar t visits' source now' (record { sink = a; sink' = c; page = p; page' = r }) reader' (count + 1) marked'
+      → SoFar t visited' source now' (record { sink = a; sink' = c; page = p; page' = r }) reader' (count + 1) marked'
   one_more c r marked' were put counted = record {
     entries = entries;
     given = λ input are is. given input far.entries are (far.given input are is);
@@ -160,30 +160,18 @@ counted_none m t new old same false_is is =
     let more : new ≡ old + 0 = omega (arith, is) in
     more ∙ ap (λ b. old + cond b 1 0) (sym false_is ∙ same)
 
--- ---- the visitor keeps its lines
-
-pub keeps_more : (t t' t'' : Task) → KeepsLines t t' → KeepsLines t' t'' → KeepsLines t t''
-keeps_more t t' t'' first more = record {
-  line_kept = more.line_kept ∙ first.line_kept;
-  marks_kept = more.marks_kept ∙ first.marks_kept;
-  waits_kept = more.waits_kept ∙ first.waits_kept;
-}
+-- ---- the visitor keeps its task
 
 pub puts_by : (a b : Seen) (p q : List ℕ) (number : ℕ) (e : Received) (t t' : Task)
-    → KeepsLines t t' → Puts a b p q (t'.line number e) → Puts a b p q (t.line number e)
-puts_by a b p q number e t t' keeps put =
-    subst (λ (line : ℕ → Received → List ℕ). Puts a b p q (line number e)) keeps.line_kept put
+    → t' ≡ t → Puts a b p q (t'.line number e) → Puts a b p q (t.line number e)
+puts_by a b p q number e t t' same put = subst (λ (u : Task). Puts a b p q (u.line number e)) same put
 
 pub part_by : (a b : Seen) (p : List ℕ) (number : ℕ) (e : Received) (t t' : Task)
-    → KeepsLines t t' → TakesPart a b (p ++ t'.line number e) → TakesPart a b (p ++ t.line number e)
-part_by a b p number e t t' keeps part =
-    subst (λ (line : ℕ → Received → List ℕ). TakesPart a b (p ++ line number e)) keeps.line_kept part
+    → t' ≡ t → TakesPart a b (p ++ t'.line number e) → TakesPart a b (p ++ t.line number e)
+part_by a b p number e t t' same part = subst (λ (u : Task). TakesPart a b (p ++ u.line number e)) same part
 
-pub marked_by : (m : Bool) (e : Received) (t t' : Task) → KeepsLines t t' → m ≡ t'.marks e → m ≡ t.marks e
-marked_by m e t t' keeps is = is ∙ ap (λ (marks : Received → Bool). marks e) keeps.marks_kept
+pub marked_by : (m : Bool) (e : Received) (t t' : Task) → t' ≡ t → m ≡ t'.marks e → m ≡ t.marks e
+marked_by m e t t' same is = is ∙ ap (λ (u : Task). u.marks e) same
 
-pub waits_by : (t t' : Task) → KeepsLines t t' → t.waits ≡ true → t'.waits ≡ true
-waits_by t t' keeps waits = keeps.waits_kept ∙ waits
-
-pub waits_first : (t t' : Task) → KeepsLines t t' → t'.waits ≡ true → t.waits ≡ true
-waits_first t t' keeps waits = sym keeps.waits_kept ∙ waits
+pub waits_by : (t t' : Task) → t' ≡ t → t.waits ≡ true → t'.waits ≡ true
+waits_by t t' same waits = ap (λ (u : Task). u.waits) same ∙ waits

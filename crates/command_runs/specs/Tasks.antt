@@ -18,12 +18,6 @@ pub record Task : Type 0 where
   -- it puts nothing before that
   pub waits : Bool
 
--- The task of a visitor stays the same while it visits, but for what it puts behind all entries.
-pub record KeepsLines (old new : Task) : Type 0 where
-  pub line_kept : new.line ≡ old.line
-  pub marks_kept : new.marks ≡ old.marks
-  pub waits_kept : new.waits ≡ old.waits
-
 -- the entries are those of one version
 abbrev pub AreOf : CaptureVersion → List Received → Type 0
 AreOf v entries = All (IsReceived v) entries

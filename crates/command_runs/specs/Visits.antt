@@ -1,4 +1,4 @@
--- What a run has visited by the time it ends, of a command that writes at the end alone.
+-- What a run over a capture has taken by the time it ends, of a command that writes at the end alone.
 use Rattle.std.specs.Prelude.{◌≡◌, ℕ, List, [], Option, Some}
 use Rattle.wire_spec.specs.Bytes.{AreBytes}
 use Rattle.capture_spec.specs.Items.{Received}
@@ -21,7 +21,7 @@ HasRead input left c Spent = GoesOn c.entries input
 HasRead input left c Memory = c.entries ≡ []
 HasRead input left c _ = ⊥
 
--- these entries of what the source told were visited
+-- these entries of what the source told were taken
 pub record HasVisited (visits : List Received → Type 0) (source source' : Seen) (status : Status) : Type 0 where
   pub read : Capture
   pub were : visits read.entries

@@ -45,22 +45,20 @@ pub record AreCounts (t : Task) (entries : List Received) (counts : Counts) : Ty
   pub marked_are : counts.marked ≡ count_by t.marks entries
 
 -- all entries of what the source told were visited
-pub record VisitedAll (t : Task) (visits : List Received → Type 0) (source : Seen) (m : Moved) (counts : Counts)
+pub record VisitedAll (t : Task) (visited : List Received → Type 0) (source : Seen) (m : Moved) (counts : Counts)
     : Type 0 where
   pub entries : List Received
   pub all : (input : List ℕ) → AreBytes input → source.told ≡ Some input → IsAllOf counts.version entries input
   pub counted : AreCounts t entries counts
-  pub were : visits entries
+  pub were : visited entries
   pub put : PutsLines t m entries
 
 -- reading ended behind these entries with this refusal
-pub record VisitedSome (t : Task) (visits : List Received → Type 0) (source source' : Seen) (m : Moved)
-    (refusal : ReadRefusal) : Type 0 where
+pub record VisitedSome (t : Task) (source source' : Seen) (m : Moved) (refusal : ReadRefusal) : Type 0 where
   pub entries : List Received
   pub version : Option CaptureVersion
   pub ends : (input : List ℕ) → AreBytes input → source.told ≡ Some input
       → EndsAt version entries input source'.told (Err refusal)
-  pub were : visits entries
   pub put : PutsLines t m entries
 
 -- a write failed at the last of these entries
@@ -71,9 +69,9 @@ pub record VisitFailed (t : Task) (source : Seen) (m : Moved) : Type 0 where
 
 -- how the visits may end
 abbrev pub VisitsEnd : Task → (List Received → Type 0) → Seen → Seen → Moved → Result Counts Stop → Type 0
-VisitsEnd t visits source source' m (Ok counts) = VisitedAll t visits source m counts
-VisitsEnd t visits source source' m (Err (stops.Read refusal)) = VisitedSome t visits source source' m refusal
-VisitsEnd t visits source source' m (Err stops.Write) = VisitFailed t source m
+VisitsEnd t visited source source' m (Ok counts) = VisitedAll t visited source m counts
+VisitsEnd t visited source source' m (Err (stops.Read refusal)) = VisitedSome t source source' m refusal
+VisitsEnd t visited source source' m (Err stops.Write) = VisitFailed t source m
 
 -- visits to all entries have left the source at its end
 abbrev pub ReadsToTheEnd : Result Counts Stop → Seen → Type 0

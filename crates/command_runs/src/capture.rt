@@ -7,7 +7,6 @@ ghost use Rattle.command_runs.specs.Grammars.{Capture, captures};
 ghost use Rattle.command_runs.specs.Outside.{outside};
 ghost use Rattle.command_runs.specs.Runs.{Runs};
 ghost use Rattle.command_runs.specs.Tasks.{Does};
-ghost use Rattle.command_runs.specs.Visits.{HasVisited};
 ghost use Rattle.command_runs.specs.Walks.{AreCounts};
 
 use crate::Status;
@@ -24,13 +23,10 @@ pub fn visit_capture<S: Source, K: Sink, V: EntryVisitor>(
     source: &mut S,
     sink: &mut K,
 ) -> Status
-    requires { V.visits visitor.old [] visitor.old }
-    // What comes behind all entries is told by the visitor as they left it.
-    ensures runs { (a : Act Capture) → Does (V.does visitor.new) a
+    requires { V.visited visitor.old [] }
+    ensures { (a : Act Capture) → Does (V.does visitor.old) a
         → Runs captures a (outside (S.seen source.old) (K.seen sink.old))
         (outside (S.seen source.new) (K.seen sink.new)) result }
-    ensures visited { (V.does visitor.new).waits ≡ true
-        → HasVisited (λ entries. V.visits visitor.old entries visitor.new) (S.seen source.old) (S.seen source.new) result }
 {
     let Ok(mut reader) = CaptureReader::open(alloc) else {
         return Status::Memory;
@@ -48,15 +44,14 @@ pub fn visit_capture<S: Source, K: Sink, V: EntryVisitor>(
 
 // Puts what comes behind all entries, and ends the run.
 fn finish<K: Sink, V: EntryVisitor>(
-    visitor: &V,
+    visitor: &mut V,
     page: &mut Page,
     sink: &mut K,
     counts: &Counts,
 ) -> Status
-    ensures { (first : V) (entries : List Received) → V.visits first entries visitor.now
-        → AreCounts (V.does visitor.now) entries counts.now
+    ensures { (entries : List Received) → V.visited visitor.old entries → AreCounts (V.does visitor.old) entries counts.now
         → Flushed (K.seen sink.old) (K.seen sink.new)
-        (page.old ++ (V.does visitor.now).last (record { version = counts.now.version; entries = entries }))
+        (page.old ++ (V.does visitor.old).last (record { version = counts.now.version; entries = entries }))
         (counted_status counts.now) result }
 {
     match visitor.finish(page, sink, counts) {

@@ -4,7 +4,7 @@ ghost use Rattle.std.specs.declared.result.Result.TheVariants.{Err};
 ghost use Rattle.capture_spec.specs.Items.{Received};
 ghost use Rattle.sflow_io.specs.Senders.{sender_in};
 ghost use Rattle.text_lines.specs.Pages.{Prints};
-ghost use Rattle.command_runs.specs.Tasks.{KeepsLines, Task};
+ghost use Rattle.command_runs.specs.Tasks.{Task};
 ghost use Rattle.command_runs.specs.Walks.{AreCounts, HasWalkCause, IsFresh, ReadsToTheEnd, VisitsEnd, version_said};
 
 use capture_spec::CaptureVersion;
@@ -16,11 +16,11 @@ const MOST: u64 = 1 << 48;
 
 /// What is done with each entry of a capture, and behind the last one.
 pub trait EntryVisitor {
-    /// What it does. Only what it puts behind all entries may change while it visits.
+    /// What it does, whatever it has visited.
     ghost does: { Self → Task };
 
-    /// What visits to these entries, one after the other, make of it.
-    ghost visits: { Self → List Received → Self → Type 0 };
+    /// It has visited these entries.
+    ghost visited: { Self → List Received → Type 0 };
 
     /// Visits the entry with this number, which counts from 1, and answers whether it marks it. An entry has at most
     /// 65,535 bytes.
@@ -37,19 +37,22 @@ pub trait EntryVisitor {
         ensures prints { Prints (K.seen sink.old) (K.seen sink.new) page.old page.new result
             ((does self.old).line number (record { arrival = at; sender = sender_in from; bytes = bytes.now })) }
         ensures marked { IfOk result (λ m. m ≡ (does self.old).marks (record { arrival = at; sender = sender_in from; bytes = bytes.now })) }
-        ensures visited { IfOk result (λ _. (first : Self) (entries : List Received) → length entries < 2 ^ 48
-            → visits first entries self.old
-            → visits first (entries ++ record { arrival = at; sender = sender_in from; bytes = bytes.now } ∷ []) self.new) }
-        ensures keeps { KeepsLines (does self.old) (does self.new) }
+        ensures visited { IfOk result (λ _. (entries : List Received) → length entries < 2 ^ 48 → visited self.old entries
+            → visited self.new (entries ++ record { arrival = at; sender = sender_in from; bytes = bytes.now } ∷ [])
+            × (does self.new ≡ does self.old)) }
         ensures waits { (does self.old).waits ≡ true
             → IsOk result × (sink.new ≡ sink.old) × (page.new ≡ page.old) };
 
     /// Puts what comes behind all entries.
-    fn finish<K: Sink>(&self, page: &mut Page, sink: &mut K, counts: &Counts) -> Result<(), Failed>
-        ensures prints { (first : Self) (entries : List Received) → visits first entries self.now
-            → AreCounts (does self.now) entries counts.now
+    fn finish<K: Sink>(
+        &mut self,
+        page: &mut Page,
+        sink: &mut K,
+        counts: &Counts,
+    ) -> Result<(), Failed>
+        ensures prints { (entries : List Received) → visited self.old entries → AreCounts (does self.old) entries counts.now
             → Prints (K.seen sink.old) (K.seen sink.new) page.old page.new result
-            ((does self.now).last (record { version = counts.now.version; entries = entries })) };
+            ((does self.old).last (record { version = counts.now.version; entries = entries })) };
 
     /// Whether it puts nothing before that.
     fn waits(&self) -> bool
@@ -94,11 +97,10 @@ pub(crate) fn visit_entries<S: Source, K: Sink, V: EntryVisitor>(
 ) -> Result<Counts, Stop>
     requires fresh { IsFresh reader.old }
     requires room { 65535 ≤ length room.old }
-    requires visits { V.visits visitor.old [] visitor.old }
-    ensures visits { VisitsEnd (V.does visitor.old) (λ entries. V.visits visitor.old entries visitor.new)
-        (S.seen source.old) (S.seen source.new)
+    requires visited { V.visited visitor.old [] }
+    ensures visits { VisitsEnd (V.does visitor.old) (V.visited visitor.new) (S.seen source.old) (S.seen source.new)
         (record { sink = K.seen sink.old; sink' = K.seen sink.new; page = page.old; page' = page.new }) result }
-    ensures keeps { KeepsLines (V.does visitor.old) (V.does visitor.new) }
+    ensures same { result ≢ Err Stop.Write → V.does visitor.new ≡ V.does visitor.old }
     ensures waits { (V.does visitor.old).waits ≡ true
         → (result ≢ Err Stop.Write) × (sink.new ≡ sink.old) × (page.new ≡ page.old) }
     ensures at_end { ReadsToTheEnd result (S.seen source.new) }
