@@ -15,7 +15,7 @@ use Rattle.capture_spec.specs.Items.{Received, entry_of}
 use Rattle.capture_spec.specs.VersionedCaptures.{ReceivedAll, ReceivedOutcome}
 use Rattle.capture_spec.proofs.VersionedOutcomes.{outcome_back}
 use Rattle.books_spec.specs.Items.{Item}
-use Rattle.books_spec.specs.WholeBooks.{whole_books}
+use Rattle.books_spec.specs.WholeBooks.{WholeBooks, whole_books}
 use Rattle.books_spec.specs.declared.limits.Limits.{Limits}
 use Rattle.account_spec.specs.Histories.{SubAgent, IsHistory}
 use Rattle.account_spec.specs.Deliveries.{Delivery, Delivers, item}
@@ -26,6 +26,8 @@ use Rattle.delivered_items.specs.Accepted.{AreAccepted}
 use Rattle.delivered_items.specs.Readers.{IsReader, item_by, entry_item as delivered_item}
 use Rattle.delivered_items.proofs.Read.{all-good, all-items}
 use Rattle.flow_collector.specs.Items.{sample_in, samples_in, item_of, item_in}
+use Rattle.sample_taps.specs.declared.class_totals.ClassTotals.{ClassTotals}
+use Rattle.report_lines.specs.HeaderLines.{ShownTaps}
 use Rattle.report_lines.specs.InterfaceLines.{report_with}
 use Rattle.command_runs.specs.Grammars.{Capture, captures}
 use Rattle.command_runs.specs.Outside.{Outside}
@@ -37,7 +39,8 @@ use Rattle.command_runs.specs.declared.status.Status.TheVariants.{Done}
 use Rattle.sflow_tool.specs.Headlines.{IsDelivered}
 use Rattle.sflow_tool.specs.Performances.{Performs}
 use Rattle.sflow_tool.specs.Surroundings.{Surroundings}
-use Rattle.sflow_tool.specs.Replays.{entry_item, items_in, replay_act, report_of}
+use Rattle.sflow_tool.specs.Replays.{classes_in, entry_item, items_in, replay_act, report_of}
+use Rattle.sflow_tool.proofs.Items.{map_reverse}
 
 -- ---- the collector reads what was sent
 
@@ -82,14 +85,6 @@ same_received : (v w : CaptureVersion) (es fs : List Received) (input : List ℕ
 same_received v w es fs input one other =
     ap entries_in (sym (outcome_back input (Ok (v, es)) one) ∙ outcome_back input (Ok (w, fs)) other)
 
-map_reverse : {A B : Type 0} (f : A → B) (xs : List A) → map f (reverse xs) ≡ reverse (map f xs)
-map_reverse f [] = refl
-map_reverse f (x ∷ xs) =
-    ap (map f) (reverse-append (x ∷ []) xs)
-    ∙ map-append f (reverse xs) (x ∷ [])
-    ∙ ap (λ ys. ys ++ f x ∷ []) (map_reverse f xs)
-    ∙ sym (reverse-append (f x ∷ []) (map f xs))
-
 of_received : (es : List Received) → map entry_item es ≡ map item_at (map entry_of es)
 of_received [] = refl
 of_received (e ∷ es) = ap (λ items. entry_item e ∷ items) (of_received es)
@@ -102,12 +97,13 @@ in_their_order received entries order =
 
 -- ---- a run
 
-pub headline : (l : Limits) (interfaces : Bool) (history : List SubAgent) (deliveries : List Delivery) (input : List ℕ)
-    (before after : Outside) → Runs captures (replay_act l interfaces) before after Done → AreBytes input
-    → before.source.told ≡ Some input → IsDelivered l history deliveries input
-    → Takes before.sink after.sink (report_with interfaces (account l history deliveries))
+pub headline : (l : Limits) (interfaces : Bool) (taps : ShownTaps) (history : List SubAgent) (deliveries : List Delivery)
+    (input : List ℕ) (before after : Outside) → Runs captures (replay_act l interfaces taps) before after Done
+    → AreBytes input → before.source.told ≡ Some input → (d : IsDelivered l history deliveries input)
+    → Takes before.sink after.sink
+    (report_with interfaces (account l history deliveries) (classes_in l d.capture.received) taps)
 unfolding report_of
-headline l interfaces history deliveries input before after ran are told d =
+headline l interfaces taps history deliveries input before after ran are told d =
     let wrote = ran.ends input are told in
     let read : Capture = wrote.read in
     let same : read.entries ≡ d.capture.received =
@@ -117,16 +113,21 @@ headline l interfaces history deliveries input before after ran are told d =
     ∙ delivered history deliveries d.entries d.premises.history_is d.accepted d.delivers in
     let books : whole_books l (items_in read.entries) ≡ account l history deliveries =
     ap (whole_books l) items ∙ books-are l history deliveries (lesser l history deliveries d.premises) in
-    subst (λ (text : List ℕ). Takes before.sink after.sink text) (ap (report_with interfaces) books) wrote.taken
+    let classes : classes_in l read.entries ≡ classes_in l d.capture.received = ap (classes_in l) same in
+    subst (λ (text : List ℕ). Takes before.sink after.sink text)
+    (ap (λ (b : WholeBooks). report_with interfaces b (classes_in l read.entries) taps) books
+    ∙ ap (λ (t : ClassTotals). report_with interfaces (account l history deliveries) t taps) classes) wrote.taken
 
 -- of the command that the words name
 pub headline_of : (c : Command) (l : Limits) (interfaces : Bool) (history : List SubAgent) (deliveries : List Delivery)
     (input : List ℕ) (before after : Surroundings) (status : Status) → Performs c before after status
     → Replay l interfaces ≡ c → status ≡ Done → AreBytes input → before.ends.source.told ≡ Some input
-    → IsDelivered l history deliveries input
-    → Takes before.ends.sink after.ends.sink (report_with interfaces (account l history deliveries))
+    → (d : IsDelivered l history deliveries input)
+    → Takes before.ends.sink after.ends.sink
+    (report_with interfaces (account l history deliveries) (classes_in l d.capture.received) after.taps)
 headline_of c l interfaces history deliveries input before after status performed same done are told d =
     let ran : Performs (Replay l interfaces) before after status =
     subst (λ (e : Command). Performs e before after status) (sym same) performed in
-    headline l interfaces history deliveries input before.ends after.ends
-    (subst (λ (s : Status). Runs captures (replay_act l interfaces) before.ends after.ends s) done ran.ran) are told d
+    headline l interfaces after.taps history deliveries input before.ends after.ends
+    (subst (λ (s : Status). Runs captures (replay_act l interfaces after.taps) before.ends after.ends s) done ran.ran)
+    are told d

@@ -7,5 +7,7 @@ pub mod Canonical
 pub mod CanonLaws
 pub mod CheckLaws
 pub mod Items
+pub mod Silent
+pub mod ReplayRuns
 pub mod InterfaceTexts
 pub mod HeadlineRows

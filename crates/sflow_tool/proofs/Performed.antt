@@ -1,41 +1,56 @@
 -- What holds of the runs of all commands.
-use Rattle.std.proofs.Common.{◌≡◌, ℕ, ◌⊎◌, inl, inr, List, Some, refl, sym, subst}
+use Rattle.std.proofs.Common.{◌≡◌, ℕ, Bool, ◌⊎◌, inl, inr, List, [], Some, refl, sym, subst, ◌∙◌}
 use Rattle.wire_spec.specs.Bytes.{AreBytes}
+use Rattle.wire_spec.specs.declared.pad.Pad.{Pad}
+use Rattle.capture_spec.specs.declared.pcap_output.PcapOutput.{PcapOutput}
+use Rattle.books_spec.specs.declared.limits.Limits.{Limits}
+use Rattle.command_words.specs.declared.command.CanonVersion.{CanonVersion}
 use Rattle.byte_ends.specs.Seen.{Rose, Seen}
 use Rattle.datagram_links.specs.Links.{LinkSeen}
+use Rattle.report_lines.specs.HeaderLines.{ShownTaps, no_taps}
+use Rattle.sample_taps.specs.declared.brief.Brief.{Brief}
+use Rattle.sample_taps.specs.Feeding.{Held}
 use Rattle.command_words.specs.declared.command.Command.{Command}
 use Rattle.command_words.specs.declared.command.Command.TheVariants.{Replay, Show, Check, Canon, Pcap}
 use Rattle.command_runs.specs.declared.status.Status.{Status}
-use Rattle.command_runs.specs.declared.status.Status.TheVariants.{Memory, Usage}
+use Rattle.command_runs.specs.declared.status.Status.TheVariants.{Done, Found, Usage, ReadFault, WriteFault, BadInput, Memory, LinkFault, Spent}
 use Rattle.command_runs.specs.Acts.{Act}
 use Rattle.command_runs.specs.Grammars.{Grammar, captures, pcap_files}
 use Rattle.command_runs.specs.Outside.{Outside, outside}
 use Rattle.command_runs.specs.Readings.{Decides, HasOneEnding}
 use Rattle.command_runs.specs.Runs.{Runs}
+use Rattle.command_runs.specs.Visits.{HasVisited}
+use Rattle.command_runs.proofs.Visited.{none_visited}
 use Rattle.command_runs.proofs.CaptureEndings.{captures_once}
 use Rattle.command_runs.proofs.Completed.{completed}
 use Rattle.command_runs.proofs.PcapEndings.{pcap_files_once}
 use Rattle.sflow_tool.specs.Canons.{canon_act}
 use Rattle.sflow_tool.specs.Checks.{check_act}
 use Rattle.sflow_tool.specs.Pcaps.{pcap_act}
-use Rattle.sflow_tool.specs.Performances.{EndsBy, Performs}
-use Rattle.sflow_tool.specs.Replays.{replay_act}
+use Rattle.sflow_tool.specs.Performances.{EndsBy, IsFed, Performs}
+use Rattle.sflow_tool.specs.Replays.{briefs_in, replay_act}
 use Rattle.sflow_tool.specs.Shows.{show_act}
-use Rattle.sflow_tool.specs.Surroundings.{RunsBetween, Surroundings, surroundings}
+use Rattle.sflow_tool.specs.Surroundings.{RunsBetween, RunsCollecting, Surroundings, surroundings}
 
 -- a run of one command is one of another that is the same
 pub of_this : (c d : Command) (before after : Surroundings) (status : Status) → d ≡ c → Performs c before after status
     → Performs d before after status
 of_this c d before after status is ran = subst (λ (x : Command). Performs x before after status) (sym is) ran
 
--- a run from the source to the sink, which didn't touch the link
+-- a run from the source to the sink, which touched neither the link nor the consumers
 pub between : {X : Type 0} (g : Grammar X) (a : Act X) (source sink source' sink' : Seen) (link : LinkSeen)
-    (status : Status) → Runs g a (outside source sink) (outside source' sink') status
-    → RunsBetween g a (surroundings source sink link) (surroundings source' sink' link) status
-between g a source sink source' sink' link status ran = record { ran = ran; link_kept = refl }
+    (taps : ShownTaps) (status : Status) → Runs g a (outside source sink) (outside source' sink') status
+    → RunsBetween g a (surroundings source sink link taps) (surroundings source' sink' link taps) status
+between g a source sink source' sink' link taps status ran = record { ran = ran; link_kept = refl; taps_kept = refl }
+
+-- a run that feeds the consumers, and doesn't touch the link
+pub collecting : {X : Type 0} (g : Grammar X) (a : ShownTaps → Act X) (source sink source' sink' : Seen) (link : LinkSeen)
+    (taps taps' : ShownTaps) (status : Status) → Runs g (a taps') (outside source sink) (outside source' sink') status
+    → RunsCollecting g a (surroundings source sink link taps) (surroundings source' sink' link taps') status
+collecting g a source sink source' sink' link taps taps' status ran = record { ran = ran; link_kept = refl }
 
 -- a run that has touched nothing may want memory
-lacks_between : {X : Type 0} (g : Grammar X) (a : Act X) (ends : Outside) → Runs g a ends ends Memory
+pub lacks_between : {X : Type 0} (g : Grammar X) (a : Act X) (ends : Outside) → Runs g a ends ends Memory
 lacks_between g a ends = record {
   may = tt;
   ends = λ input are told. tt;
@@ -50,10 +65,14 @@ lacks_between g a ends = record {
 }
 
 lacks : {X : Type 0} (g : Grammar X) (a : Act X) (before : Surroundings) → RunsBetween g a before before Memory
-lacks g a before = record { ran = lacks_between g a before.ends; link_kept = refl }
+lacks g a before = record { ran = lacks_between g a before.ends; link_kept = refl; taps_kept = refl }
+
+lacks_collecting : {X : Type 0} (g : Grammar X) (a : ShownTaps → Act X) (before : Surroundings)
+    → RunsCollecting g a before before Memory
+lacks_collecting g a before = record { ran = lacks_between g (a before.taps) before.ends; link_kept = refl }
 
 pub lacks_memory : (c : Command) (before : Surroundings) → Performs c before before Memory
-lacks_memory (Replay limits interfaces) = lacks captures (replay_act limits interfaces)
+lacks_memory (Replay limits interfaces) = lacks_collecting captures (replay_act limits interfaces)
 lacks_memory Show = lacks captures show_act
 lacks_memory (Check pad) = lacks captures (check_act pad)
 lacks_memory (Canon to) = lacks captures (canon_act to)
@@ -69,7 +88,7 @@ no_usage (Pcap output) before after ran = ran.ran.may
 
 -- an input makes a run of a command end in one way
 pub some_ending : (c : Command) (input : List ℕ) → AreBytes input → (ending : Status) × EndsBy c input ending
-some_ending (Replay limits interfaces) input are = captures_once.some (replay_act limits interfaces) input are
+some_ending (Replay limits interfaces) input are = captures_once.some (replay_act limits interfaces no_taps) input are
 some_ending Show input are = captures_once.some show_act input are
 some_ending (Check pad) input are = captures_once.some (check_act pad) input are
 some_ending (Canon to) input are = captures_once.some (canon_act to) input are
@@ -77,11 +96,35 @@ some_ending (Pcap output) input are = pcap_files_once.some (pcap_act output) inp
 
 pub one_ending : (c : Command) (input : List ℕ) (one other : Status) → AreBytes input → EndsBy c input one
     → EndsBy c input other → one ≡ other
-one_ending (Replay limits interfaces) = captures_once.one (replay_act limits interfaces)
+one_ending (Replay limits interfaces) = captures_once.one (replay_act limits interfaces no_taps)
 one_ending Show = captures_once.one show_act
 one_ending (Check pad) = captures_once.one (check_act pad)
 one_ending (Canon to) = captures_once.one (canon_act to)
 one_ending (Pcap output) = pcap_files_once.one (pcap_act output)
+
+-- how an input makes a run end depends on what it finds alone
+decides_as : {X : Type 0} (g : Grammar X) (a b : Act X) → ((x : X) → b.finds x ≡ a.finds x) → (input : List ℕ)
+    (ending : Status) → Decides g a input ending → Decides g b input ending
+decides_as g a b same input Done d = (d.0, record { all = d.1.all; found_is = same d.0 ∙ d.1.found_is })
+decides_as g a b same input Found d = (d.0, record { all = d.1.all; found_is = same d.0 ∙ d.1.found_is })
+decides_as g a b same input Usage d = absurd d.1
+decides_as g a b same input ReadFault d = absurd d.1
+decides_as g a b same input WriteFault d = absurd d.1
+decides_as g a b same input (BadInput at kind) d = d
+decides_as g a b same input Memory d = absurd d.1
+decides_as g a b same input LinkFault d = absurd d.1
+decides_as g a b same input Spent d = d
+
+completes_collecting : {X : Type 0} (g : Grammar X) (a : ShownTaps → Act X) → HasOneEnding g
+    → ((t u : ShownTaps) (x : X) → (a t).finds x ≡ (a u).finds x) → (input : List ℕ)
+    (before after : Surroundings) (status ending : Status) → RunsCollecting g a before after status → AreBytes input
+    → before.ends.source.told ≡ Some input → Decides g (a no_taps) input ending
+    → ¬ Rose before.ends.source.faults after.ends.source.faults
+    → ¬ Rose before.ends.sink.faults after.ends.sink.faults → ¬ Rose before.link.faults after.link.faults
+    → (status ≡ ending) ⊎ (status ≡ Memory)
+completes_collecting g a exact same input before after status ending ran are told decides no_read no_write no_link =
+    completed g (a after.taps) exact input before.ends after.ends status ending ran.ran are told
+    (decides_as g (a no_taps) (a after.taps) (same after.taps no_taps) input ending decides) no_read no_write
 
 completes_between : {X : Type 0} (g : Grammar X) (a : Act X) → HasOneEnding g → (input : List ℕ)
     (before after : Surroundings) (status ending : Status) → RunsBetween g a before after status → AreBytes input
@@ -98,8 +141,47 @@ pub completes : (c : Command) (input : List ℕ) (before after : Surroundings) (
     → ¬ Rose before.ends.source.faults after.ends.source.faults
     → ¬ Rose before.ends.sink.faults after.ends.sink.faults → ¬ Rose before.link.faults after.link.faults
     → (status ≡ ending) ⊎ (status ≡ Memory)
-completes (Replay limits interfaces) = completes_between captures (replay_act limits interfaces) captures_once
+completes (Replay limits interfaces) =
+    completes_collecting captures (replay_act limits interfaces) captures_once (λ t u x. refl)
 completes Show = completes_between captures show_act captures_once
 completes (Check pad) = completes_between captures (check_act pad) captures_once
 completes (Canon to) = completes_between captures (canon_act to) captures_once
 completes (Pcap output) = completes_between pcap_files (pcap_act output) pcap_files_once
+
+-- ---- what a run feeds the consumers
+
+module _ {X : Type 0} (step : X → Brief → X → Type 0) (done : X → Bool) (before after : Outside) (status : Status)
+    (xs ys : List X) where
+  pub fed_as : (c d : Command) → d ≡ c → IsFed step done c before after status xs ys → IsFed step done d before after status xs ys
+  fed_as c d is fed = subst (λ (x : Command). IsFed step done x before after status xs ys) (sym is) fed
+
+  pub fed_read : (l : Limits) (interfaces : Bool)
+      → HasVisited (λ entries. Held step done (briefs_in l entries) xs ys) before.source after.source status
+      → IsFed step done (Replay l interfaces) before after status xs ys
+  fed_read l interfaces seen = record {
+    briefs = briefs_in l seen.read.entries;
+    feeds = record { read = seen.read; were = refl; reads = seen.reads };
+    held = seen.were;
+  }
+
+module _ {X : Type 0} (step : X → Brief → X → Type 0) (done : X → Bool) (before after : Outside) (xs : List X) where
+  -- a command that doesn't collect gives no brief
+  pub unfed_show : (status : Status) → IsFed step done Show before after status xs xs
+  unfed_show status = record { briefs = []; feeds = refl; held = refl }
+
+  pub unfed_check : (status : Status) (pad : Pad) → IsFed step done (Check pad) before after status xs xs
+  unfed_check status pad = record { briefs = []; feeds = refl; held = refl }
+
+  pub unfed_canon : (status : Status) (to : CanonVersion) → IsFed step done (Canon to) before after status xs xs
+  unfed_canon status to = record { briefs = []; feeds = refl; held = refl }
+
+  pub unfed_pcap : (status : Status) (output : PcapOutput) → IsFed step done (Pcap output) before after status xs xs
+  unfed_pcap status output = record { briefs = []; feeds = refl; held = refl }
+
+  -- nor does a run that has no memory
+  pub unfed_memory : (c : Command) → IsFed step done c before after Memory xs xs
+  unfed_memory (Replay l interfaces) = record { briefs = []; feeds = none_visited _ _ _ refl; held = refl }
+  unfed_memory Show = unfed_show Memory
+  unfed_memory (Check pad) = unfed_check Memory pad
+  unfed_memory (Canon to) = unfed_canon Memory to
+  unfed_memory (Pcap output) = unfed_pcap Memory output

@@ -2,7 +2,6 @@
 use Rattle.std.proofs.Common.{◌≡◌, ℕ, ◌+◌, Bool, false, true, cond, nat_lt, List, [], ◌∷◌, ◌++◌, refl, sym, ap, subst, ◌∙◌, append-nil, fold, arith}
 use Rattle.std.specs.List.{count_by}
 use Rattle.wire_spec.specs.declared.pad.Pad.{Pad}
-use Rattle.books_spec.specs.declared.limits.Limits.{Limits}
 use Rattle.capture_spec.specs.Items.{Received}
 use Rattle.command_words.specs.declared.command.CanonVersion.{CanonVersion}
 use Rattle.command_runs.specs.Grammars.{Capture}
@@ -10,7 +9,6 @@ use Rattle.command_runs.specs.Lines.{lines_of}
 use Rattle.command_runs.specs.Tasks.{Does}
 use Rattle.sflow_tool.specs.Canons.{canon_act, canon_task}
 use Rattle.sflow_tool.specs.Checks.{check_act, check_task}
-use Rattle.sflow_tool.specs.Replays.{replay_act, replay_task, report_of}
 use Rattle.sflow_tool.specs.Shows.{show_act, show_task, shown_lines}
 use Rattle.sflow_tool.proofs.Canonical.{canon_lines, canon_whole}
 
@@ -52,16 +50,3 @@ canon_does to = record {
   may = λ c found. absurd cc;
   waits = λ late. absurd cc;
 }
-
-pub replay_does : (limits l : Limits) (interfaces : Bool) → l ≡ limits
-    → Does (replay_task l interfaces) (replay_act limits interfaces)
-unfolding report_of
-replay_does limits l interfaces same =
-    let does : Does (replay_task limits interfaces) (replay_act limits interfaces) = record {
-      parts = λ v c are. no_lines 1 c.entries;
-      whole = λ c are. ap (λ text. text ++ report_of limits interfaces c.entries) (no_lines 1 c.entries);
-      finds = none_found;
-      may = λ c found. absurd cc;
-      waits = λ late. refl;
-    } in
-    subst (λ (r : Limits). Does (replay_task r interfaces) (replay_act limits interfaces)) (sym same) does

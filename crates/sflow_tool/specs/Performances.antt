@@ -1,29 +1,51 @@
 -- The commands' rows: the form of input that each reads, and what it does with it.
-use Rattle.std.specs.Prelude.{ℕ, List}
+use Rattle.std.specs.Prelude.{◌≡◌, ℕ, Bool, List, []}
 use Rattle.command_words.specs.declared.command.Command.{Command}
 use Rattle.command_words.specs.declared.command.Command.TheVariants.{Replay, Show, Check, Canon, Pcap}
 use Rattle.command_runs.specs.declared.status.Status.{Status}
 use Rattle.command_runs.specs.Grammars.{captures, pcap_files}
+use Rattle.command_runs.specs.Outside.{Outside}
 use Rattle.command_runs.specs.Readings.{Decides}
+use Rattle.command_runs.specs.Visits.{HasVisited}
+use Rattle.report_lines.specs.HeaderLines.{no_taps}
+use Rattle.sample_taps.specs.declared.brief.Brief.{Brief}
+use Rattle.sample_taps.specs.Feeding.{Held}
 use Rattle.sflow_tool.specs.Canons.{canon_act}
 use Rattle.sflow_tool.specs.Checks.{check_act}
 use Rattle.sflow_tool.specs.Pcaps.{pcap_act}
-use Rattle.sflow_tool.specs.Replays.{replay_act}
+use Rattle.sflow_tool.specs.Replays.{briefs_in, replay_act}
 use Rattle.sflow_tool.specs.Shows.{show_act}
-use Rattle.sflow_tool.specs.Surroundings.{RunsBetween, Surroundings}
+use Rattle.sflow_tool.specs.Surroundings.{RunsBetween, RunsCollecting, Surroundings}
 
 -- a run of the command, from what its surroundings showed before it to what they show after it
 abbrev pub Performs : Command → Surroundings → Surroundings → Status → Type 0
-Performs (Replay limits interfaces) = RunsBetween captures (replay_act limits interfaces)
+Performs (Replay limits interfaces) = RunsCollecting captures (replay_act limits interfaces)
 Performs Show = RunsBetween captures show_act
 Performs (Check pad) = RunsBetween captures (check_act pad)
 Performs (Canon to) = RunsBetween captures (canon_act to)
 Performs (Pcap output) = RunsBetween pcap_files (pcap_act output)
 
--- the input alone makes a run of the command end so, if no call fails and memory is there
+-- The input alone makes a run of the command end so, if no call fails and memory is there. What the consumers show doesn't
+-- matter for that.
 abbrev pub EndsBy : Command → List ℕ → Status → Type 0
-EndsBy (Replay limits interfaces) = Decides captures (replay_act limits interfaces)
+EndsBy (Replay limits interfaces) = Decides captures (replay_act limits interfaces no_taps)
 EndsBy Show = Decides captures show_act
 EndsBy (Check pad) = Decides captures (check_act pad)
 EndsBy (Canon to) = Decides captures (canon_act to)
 EndsBy (Pcap output) = Decides pcap_files (pcap_act output)
+
+-- The briefs of a run of the command: those of the entries that came before it ended, where it collects, and else none.
+abbrev pub Feeds : Command → Outside → Outside → Status → List Brief → Type 0
+Feeds (Replay limits interfaces) before after status briefs =
+    HasVisited (λ entries. briefs ≡ briefs_in limits entries) before.source after.source status
+Feeds Show before after status briefs = briefs ≡ []
+Feeds (Check pad) before after status briefs = briefs ≡ []
+Feeds (Canon to) before after status briefs = briefs ≡ []
+Feeds (Pcap output) before after status briefs = briefs ≡ []
+
+-- of the consumers that were handed in, those are held that the briefs of the run leave
+pub record IsFed {X : Type 0} (step : X → Brief → X → Type 0) (done : X → Bool) (c : Command) (before after : Outside)
+    (status : Status) (xs ys : List X) : Type 0 where
+  pub briefs : List Brief
+  pub feeds : Feeds c before after status briefs
+  pub held : Held step done briefs xs ys

@@ -20,7 +20,7 @@ pub(crate) fn put_interfaces_if<K: Sink>(
     collector: &Collector,
     interfaces: bool,
 ) -> Result<(), Failed>
-    ensures { (l : Limits) (items : List Item) → StandsFor collector.now l items
+    ensures { (l : Limits) (items : List Item) → StandsFor collector.now.books l items
         → Prints (K.seen sink.old) (K.seen sink.new) page.old page.new result
         (lines_if interfaces (whole_books l items).interfaces) }
 {
@@ -37,7 +37,7 @@ fn put_interfaces<K: Sink>(
     sink: &mut K,
     collector: &Collector,
 ) -> Result<(), Failed>
-    ensures { (l : Limits) (items : List Item) → StandsFor collector.now l items
+    ensures { (l : Limits) (items : List Item) → StandsFor collector.now.books l items
         → Prints (K.seen sink.old) (K.seen sink.new) page.old page.new result
         (interface_texts (whole_books l items).interfaces) }
 {
@@ -54,7 +54,7 @@ fn put_interface_at<K: Sink>(
     collector: &Collector,
     place: usize,
 ) -> Result<(), Failed>
-    ensures { (l : Limits) (items : List Item) (k : Source) → StandsFor collector.now l items
+    ensures { (l : Limits) (items : List Item) (k : Source) → StandsFor collector.now.books l items
         → slice_get (listed_sources l items) place ≡ Some k
         → Prints (K.seen sink.old) (K.seen sink.new) page.old page.new result
         (line_text (interface_line l items k)) }

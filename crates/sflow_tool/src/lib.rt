@@ -22,6 +22,7 @@ pub use laws::{
     canon_is_final, canon_pads_with_zeros, canonical_bytes_are_exact, check_lines_are_exact,
     one_ending,
 };
+pub use sample_taps::{Brief, CountTap, LengthTap, Tap, Taps, TopPortTap};
 pub use sflow_io::{Failed, InputSource, MemorySink, MemorySource, OutputSink, Sink, Source};
 pub use top::run;
 pub use wire_spec::InputKind;

@@ -1,69 +1,40 @@
 // `replay`: the report of a capture.
-ghost use Rattle.std.specs.Prelude.{◌≡◌, ◌<◌, ◌∷◌, List, length};
+ghost use Rattle.std.specs.Prelude.{◌≡◌, ◌≤◌, ◌+◌, ◌<◌, ◌^◌, ◌++◌, [], ◌∷◌, List, length, vec_len};
 ghost use Rattle.books_spec.specs.Items.{Item};
+ghost use Rattle.books_spec.specs.SampledHeaders.{HeaderedItem};
+ghost use Rattle.books_spec.specs.WholeBooks.{whole_books};
 ghost use Rattle.books_spec.specs.declared.limits.Limits.{Limits};
 ghost use Rattle.books_spec.specs.Books.{most_entries};
 ghost use Rattle.books_spec.specs.Limits.{AreLawful};
+ghost use Rattle.sample_taps.specs.Classes.{no_classes};
+ghost use Rattle.sample_taps.specs.Feeding.{Held};
 ghost use Rattle.flow_collector.specs.Collectors.{StandsFor};
-ghost use Rattle.flow_collector.specs.Items.{item_in};
+ghost use Rattle.flow_collector.specs.Gathering.{Gathered};
+ghost use Rattle.flow_collector.specs.Headers.{headered_entry};
+ghost use Rattle.report_lines.specs.HeaderLines.{shown_taps};
+ghost use Rattle.report_lines.specs.InterfaceLines.{report_with};
+ghost use Rattle.command_runs.specs.Endings.{Flushed};
 ghost use Rattle.command_runs.specs.Grammars.{captures};
 ghost use Rattle.command_runs.specs.Outside.{outside};
 ghost use Rattle.command_runs.specs.Runs.{Runs};
-ghost use Rattle.sflow_tool.specs.Replays.{replay_act};
+ghost use Rattle.command_runs.specs.Visits.{HasVisited};
+ghost use Rattle.command_runs.specs.Walks.{IsFresh};
+ghost use Rattle.sflow_tool.specs.Replays.{Collects, HasTakeCause, LeavesAtEnd, Took, briefs_in, replay_act};
 
 use crate::report::put_report;
-use command_runs::{Counts, EntryVisitor, Sender, Status, visit_capture};
+use command_runs::{Status, flush, new_room, status_of};
 use datagram_core::Datagram;
 use flow_collector::{Collector, Limits, OpenRefusal, Seeds};
-use sflow_io::{Failed, Sink, Source};
+use sample_taps::{Tap, Taps};
+use sflow_io::{CaptureReader, Next, ReadRefusal, Sink, Source};
 use std::alloc::Global;
 use text_lines::Page;
 use wire_spec::Pad;
 
-// Takes each entry into a collector, and then puts its report.
-#[derive(Drop)]
-struct CollectedEntries {
-    collector: Collector,
-    // whether the report has the lines of interfaces
-    interfaces: bool,
-}
+// A reader gives at most so many entries.
+const MOST: u64 = 1 << 48;
 
-impl EntryVisitor for CollectedEntries {
-    ghost use Rattle.flow_collector.specs.Collectors.{StandsFor};
-    ghost use Rattle.sflow_tool.specs.Replays.{items_in, replay_task};
-
-    ghost does = { λ self. replay_task self.collector.limits self.interfaces };
-
-    ghost visited = { λ self entries. StandsFor self.collector self.collector.limits (items_in entries) };
-
-    fn visit<K: Sink>(
-        &mut self,
-        _page: &mut Page,
-        _sink: &mut K,
-        _number: u64,
-        at: u64,
-        _from: Option<Sender>,
-        bytes: &[u8],
-    ) -> Result<bool, Failed> {
-        take_entry(&mut self.collector, at, bytes);
-        Ok(false)
-    }
-
-    fn finish<K: Sink>(
-        &mut self,
-        page: &mut Page,
-        sink: &mut K,
-        _counts: &Counts,
-    ) -> Result<(), Failed> {
-        put_report(page, sink, &self.collector, self.interfaces)
-    }
-
-    fn waits(&self) -> bool {
-        true
-    }
-}
-
-// Reads a capture and writes its report. All memory is taken before the first byte is read.
+// Reads a capture, feeds the consumers and writes the report. All memory is taken before the first byte is read.
 pub(crate) fn replay<S: Source, K: Sink>(
     alloc: Global,
     limits: Limits,
@@ -71,31 +42,103 @@ pub(crate) fn replay<S: Source, K: Sink>(
     seeds: Seeds,
     source: &mut S,
     sink: &mut K,
+    taps: &mut Taps,
 ) -> Status
     requires lawful { AreLawful limits }
-    ensures { Runs captures (replay_act limits interfaces) (outside (S.seen source.old) (K.seen sink.old))
-        (outside (S.seen source.new) (K.seen sink.new)) result }
+    requires few { taps.old.ended + vec_len taps.old.held < 2 ^ 64 }
+    ensures runs { Runs captures (replay_act limits interfaces
+        (shown_taps (λ x. (⟦<dyn Tap as Tap>⟧ x.vtable).text x.value) taps.new.held.items taps.new.ended))
+        (outside (S.seen source.old) (K.seen sink.old)) (outside (S.seen source.new) (K.seen sink.new)) result }
+    ensures fed { HasVisited (λ entries. Held (λ x b y. (v : _) × (y ≡ record x { value = v }) × (⟦<dyn Tap as Tap>⟧ x.vtable).step x.value b v)
+        (λ x. (⟦<dyn Tap as Tap>⟧ x.vtable).ended x.value) (briefs_in limits entries) taps.old.held.items taps.new.held.items)
+        (S.seen source.old) (S.seen source.new) result }
+    ensures ended { taps.new.ended + vec_len taps.new.held ≡ taps.old.ended + vec_len taps.old.held }
 {
-    let collector = match Collector::open(alloc, limits, seeds) {
+    let mut collector = match Collector::open(alloc, limits, seeds) {
         Ok(collector) => collector,
         Err(OpenRefusal::Memory) => return Status::Memory,
         Err(OpenRefusal::BadLimit { .. }) => unreachable!(),
     };
-    let mut entries = CollectedEntries {
-        collector,
-        interfaces,
+    let Ok(mut reader) = CaptureReader::open(alloc) else {
+        return Status::Memory;
     };
-    visit_capture(alloc, &mut entries, source, sink)
+    let Ok(mut room) = new_room(alloc) else {
+        return Status::Memory;
+    };
+    let mut page = Page::new();
+    match take_entries(&mut reader, source, &mut room, &mut collector, taps) {
+        Ok(()) => finish(&mut page, sink, &collector, interfaces, taps),
+        Err(refusal) => status_of(refusal),
+    }
+}
+
+// Puts the report, and ends the run.
+fn finish<K: Sink>(
+    page: &mut Page,
+    sink: &mut K,
+    collector: &Collector,
+    interfaces: bool,
+    taps: &Taps,
+) -> Status
+    ensures { (l : Limits) (items : List Item) → StandsFor collector.now.books l items
+        → Flushed (K.seen sink.old) (K.seen sink.new)
+        (page.old ++ report_with interfaces (whole_books l items) collector.now.classes
+        (shown_taps (λ x. (⟦<dyn Tap as Tap>⟧ x.vtable).text x.value) taps.now.held.items taps.now.ended))
+        Status.Done result }
+{
+    match put_report(page, sink, collector, interfaces, taps) {
+        Ok(()) => flush(page, sink, Status::Done),
+        Err(_) => Status::WriteFault,
+    }
+}
+
+// Takes all entries of the capture, one after the other, each as soon as it is read.
+fn take_entries<S: Source>(
+    reader: &mut CaptureReader,
+    source: &mut S,
+    room: &mut [u8],
+    collector: &mut Collector,
+    taps: &mut Taps,
+) -> Result<(), ReadRefusal>
+    requires fresh { IsFresh reader.old }
+    requires room { 65535 ≤ length room.old }
+    requires few { taps.old.ended + vec_len taps.old.held < 2 ^ 64 }
+    requires stands { StandsFor collector.old.books collector.old.books.limits [] }
+    requires classes { collector.old.classes ≡ no_classes }
+    ensures took { Took (λ entries. Collects (λ x b y. (v : _) × (y ≡ record x { value = v }) × (⟦<dyn Tap as Tap>⟧ x.vtable).step x.value b v)
+        (λ x. (⟦<dyn Tap as Tap>⟧ x.vtable).ended x.value) collector.old.books.limits collector.new taps.old.held.items taps.new.held.items
+        (taps.old.ended + vec_len taps.old.held) (taps.new.ended + vec_len taps.new.held) entries)
+        (S.seen source.old) (S.seen source.new) result }
+    ensures at_end { LeavesAtEnd result (S.seen source.new) }
+    ensures cause { HasTakeCause (S.seen source.old) (S.seen source.new) result }
+    ensures ended { taps.new.ended + vec_len taps.new.held ≡ taps.old.ended + vec_len taps.old.held }
+{
+    for count in 0..MOST + 1 {
+        match reader.next(source, room) {
+            Ok(Next::Entry { at, from: _, len }) => {
+                let bytes = &room[..len];
+                take_entry(collector, at, bytes, taps);
+            }
+            Ok(Next::End) => return Ok(()),
+            Err(refusal) => return Err(refusal),
+        }
+    }
+    unreachable!()
 }
 
 // Takes an entry, a datagram or none, whatever its padding is.
-fn take_entry(collector: &mut Collector, at: u64, bytes: &[u8])
-    ensures { (l : Limits) (items : List Item) → length items < most_entries → StandsFor collector.old l items
-        → StandsFor collector.new l (item_in at bytes.now ∷ items) }
+fn take_entry(collector: &mut Collector, at: u64, bytes: &[u8], taps: &mut Taps)
+    requires { taps.old.ended + vec_len taps.old.held < 2 ^ 64 }
+    ensures gathers { (l : Limits) (items : List HeaderedItem) (xs : _) → length items < most_entries
+        → Gathered (λ x b y. (v : _) × (y ≡ record x { value = v }) × (⟦<dyn Tap as Tap>⟧ x.vtable).step x.value b v)
+        (λ x. (⟦<dyn Tap as Tap>⟧ x.vtable).ended x.value) collector.old l items xs taps.old.held.items
+        → Gathered (λ x b y. (v : _) × (y ≡ record x { value = v }) × (⟦<dyn Tap as Tap>⟧ x.vtable).step x.value b v)
+        (λ x. (⟦<dyn Tap as Tap>⟧ x.vtable).ended x.value) collector.new l (headered_entry at bytes.now ∷ items) xs taps.new.held.items }
+    ensures ended { taps.new.ended + vec_len taps.new.held ≡ taps.old.ended + vec_len taps.old.held }
 {
     match Datagram::parse(bytes, Pad::Any) {
         Ok(datagram) => {
-            collector.take(at, &datagram);
+            collector.take(at, &datagram, taps);
         }
         Err(fault) => {
             collector.reject(&fault);

@@ -1,16 +1,19 @@
-ghost use Rattle.std.specs.Prelude.{◌≡◌, ◌⊎◌, ◌↔◌, ℕ, Bool, List, None, Some, map, string_bytes};
+ghost use Rattle.std.specs.Prelude.{◌≡◌, ◌+◌, ◌<◌, ◌^◌, ◌⊎◌, ◌↔◌, ℕ, Bool, List, None, Some, map, string_bytes, vec_len};
 ghost use Rattle.byte_ends.specs.Seen.{Rose, Takes};
 ghost use Rattle.wire_spec.specs.Bytes.{AreBytes};
 ghost use Rattle.account_spec.specs.Histories.{SubAgent};
 ghost use Rattle.account_spec.specs.Deliveries.{Delivery};
 ghost use Rattle.account_spec.specs.Accounts.{account};
+ghost use Rattle.report_lines.specs.HeaderLines.{shown_taps};
 ghost use Rattle.report_lines.specs.InterfaceLines.{report_with};
 ghost use Rattle.sflow_tool.specs.Headlines.{IsDelivered};
 ghost use Rattle.books_spec.specs.Limits.{AreLawful};
 ghost use Rattle.books_spec.specs.declared.limits.Limits.{Limits};
 ghost use Rattle.command_words.specs.Commands.{command_of};
 ghost use Rattle.sflow_tool.specs.Surroundings.{surroundings};
-ghost use Rattle.sflow_tool.specs.Performances.{EndsBy, Performs};
+ghost use Rattle.command_runs.specs.Outside.{outside};
+ghost use Rattle.sflow_tool.specs.Performances.{EndsBy, IsFed, Performs};
+ghost use Rattle.sflow_tool.specs.Replays.{classes_in};
 ghost use Rattle.command_words.specs.declared.command.Command.{Command};
 ghost use Rattle.command_runs.specs.declared.status.Status.{Status as Ending};
 
@@ -23,14 +26,17 @@ use command_runs::Status;
 use command_words::{Command as Asked, WordsRefusal, read_words};
 use datagram_links::Link;
 use flow_collector::Seeds;
+use sample_taps::{Tap, Taps};
 use sflow_io::{Sink, Source};
 use std::alloc::Global;
 
 /// Does what the words say, from the source to the sink. The words are without the program's name. No command uses the link
 /// yet.
 ///
-/// `replay` reads a capture and writes its report: a line for each stream and each source, one for the first entry
-/// that is no datagram, and the line of totals. Its options are the limits of the collector, `--interfaces` asks for a line for
+/// `replay` reads a capture and writes its report: a line for each stream and each source, the line of the classes of sampled
+/// headers, that of each consumer, one for the first entry that is no datagram, and the line of totals. The consumers, `taps`,
+/// are given a brief for each header that counts; at every status they are as the entries that came before it leave them.
+/// Other commands leave them. Its options are the limits of the collector, `--interfaces` asks for a line for
 /// each source that told the counters of an interface, behind the lines of all sources, and `seeds` is what the
 /// hashes of the collector's tables begin with, on which nothing that is written depends.
 /// `show` reads a capture and writes the lines of each entry. `check` reads a capture and writes a line for each entry
@@ -50,23 +56,38 @@ pub fn run<S: Source, K: Sink, L: Link>(
     source: &mut S,
     sink: &mut K,
     link: &mut L,
+    taps: &mut Taps,
 ) -> Status
+    requires { taps.old.ended + vec_len taps.old.held < 2 ^ 64 }
+
     // The words name a command, or nothing is touched.
     ensures usage { (result ≡ Status.Usage) ↔ (command_of (map string_bytes words.now) ≡ None) }
-    ensures untouched { result ≡ Status.Usage → (source.new ≡ source.old) × (sink.new ≡ sink.old) × (link.new ≡ link.old) }
+    ensures untouched { result ≡ Status.Usage → (source.new ≡ source.old) × (sink.new ≡ sink.old) × (link.new ≡ link.old)
+        × (taps.new ≡ taps.old) }
 
     // What the command that they name does.
     ensures runs { (c : Command) → command_of (map string_bytes words.now) ≡ Some c
-        → Performs c (surroundings (S.seen source.old) (K.seen sink.old) (L.seen link.old))
-        (surroundings (S.seen source.new) (K.seen sink.new) (L.seen link.new)) result }
+        → Performs c (surroundings (S.seen source.old) (K.seen sink.old) (L.seen link.old)
+        (shown_taps (λ x. (⟦<dyn Tap as Tap>⟧ x.vtable).text x.value) taps.old.held.items taps.old.ended))
+        (surroundings (S.seen source.new) (K.seen sink.new) (L.seen link.new)
+        (shown_taps (λ x. (⟦<dyn Tap as Tap>⟧ x.vtable).text x.value) taps.new.held.items taps.new.ended)) result }
+
+    // The consumers that are held are those that the briefs of the run leave, and the others were counted.
+    ensures fed { (c : Command) → command_of (map string_bytes words.now) ≡ Some c
+        → IsFed (λ x b y. (v : _) × (y ≡ record x { value = v }) × (⟦<dyn Tap as Tap>⟧ x.vtable).step x.value b v)
+        (λ x. (⟦<dyn Tap as Tap>⟧ x.vtable).ended x.value) c (outside (S.seen source.old) (K.seen sink.old))
+        (outside (S.seen source.new) (K.seen sink.new)) result taps.old.held.items taps.new.held.items }
+    ensures ended { taps.new.ended + vec_len taps.new.held ≡ taps.old.ended + vec_len taps.old.held }
 
     // Where a capture delivers what agents sent and the premises hold, a report that is written is that of their account.
     ensures headline { (limits : Limits) (interfaces : Bool) (history : List SubAgent) (deliveries : List Delivery)
         (input : List ℕ)
         → command_of (map string_bytes words.now) ≡ Some (Command.Replay limits interfaces)
-        → AreBytes input → (S.seen source.old).told ≡ Some input → IsDelivered limits history deliveries input
+        → AreBytes input → (S.seen source.old).told ≡ Some input → (d : IsDelivered limits history deliveries input)
         → result ≡ Status.Done
-        → Takes (K.seen sink.old) (K.seen sink.new) (report_with interfaces (account limits history deliveries)) }
+        → Takes (K.seen sink.old) (K.seen sink.new) (report_with interfaces (account limits history deliveries)
+        (classes_in limits d.capture.received)
+        (shown_taps (λ x. (⟦<dyn Tap as Tap>⟧ x.vtable).text x.value) taps.new.held.items taps.new.ended)) }
 
     // Where no count of faults rose, the input alone decides, but for want of memory.
     ensures complete { (c : Command) (input : List ℕ) (ending : Ending)
@@ -78,7 +99,7 @@ pub fn run<S: Source, K: Sink, L: Link>(
         → (result ≡ ending) ⊎ (result ≡ Status.Memory) }
 {
     match read_words(alloc, words) {
-        Ok(command) => perform(alloc, command, seeds, source, sink, link),
+        Ok(command) => perform(alloc, command, seeds, source, sink, link, taps),
         Err(WordsRefusal::Usage) => Status::Usage,
         Err(WordsRefusal::Memory) => Status::Memory,
     }
@@ -92,14 +113,22 @@ fn perform<S: Source, K: Sink, L: Link>(
     source: &mut S,
     sink: &mut K,
     link: &mut L,
+    taps: &mut Taps,
 ) -> Status
-    requires { (limits : Limits) (interfaces : Bool) → command ≡ Asked.Replay limits interfaces → AreLawful limits }
-    ensures { Performs command (surroundings (S.seen source.old) (K.seen sink.old) (L.seen link.old))
-        (surroundings (S.seen source.new) (K.seen sink.new) (L.seen link.new)) result }
+    requires lawful { (limits : Limits) (interfaces : Bool) → command ≡ Asked.Replay limits interfaces → AreLawful limits }
+    requires few { taps.old.ended + vec_len taps.old.held < 2 ^ 64 }
+    ensures runs { Performs command (surroundings (S.seen source.old) (K.seen sink.old) (L.seen link.old)
+        (shown_taps (λ x. (⟦<dyn Tap as Tap>⟧ x.vtable).text x.value) taps.old.held.items taps.old.ended))
+        (surroundings (S.seen source.new) (K.seen sink.new) (L.seen link.new)
+        (shown_taps (λ x. (⟦<dyn Tap as Tap>⟧ x.vtable).text x.value) taps.new.held.items taps.new.ended)) result }
+    ensures fed { IsFed (λ x b y. (v : _) × (y ≡ record x { value = v }) × (⟦<dyn Tap as Tap>⟧ x.vtable).step x.value b v)
+        (λ x. (⟦<dyn Tap as Tap>⟧ x.vtable).ended x.value) command (outside (S.seen source.old) (K.seen sink.old))
+        (outside (S.seen source.new) (K.seen sink.new)) result taps.old.held.items taps.new.held.items }
+    ensures ended { taps.new.ended + vec_len taps.new.held ≡ taps.old.ended + vec_len taps.old.held }
 {
     match command {
         Asked::Replay { limits, interfaces } => {
-            replay(alloc, limits, interfaces, seeds, source, sink)
+            replay(alloc, limits, interfaces, seeds, source, sink, taps)
         }
         Asked::Show => show(alloc, source, sink),
         Asked::Check { pad } => check(alloc, pad, source, sink),

@@ -11,7 +11,7 @@ use Rattle.sflow_tool.proofs.interfaces.put_interfaces.Given as goal
 
 abbrev pub invariant-loop-place : goal.invariant-loop-place
 invariant-loop-place g l = record {
-  put : (l' : Limits) (items : List Item) → StandsFor l.collector l' items
+  put : (l' : Limits) (items : List Item) → StandsFor l.collector.books l' items
       → Puts (g.K.Sink.seen l.initial.sink) (g.K.Sink.seen l.sink) l.initial.page l.page
       (flat_map (λ k. line_text (interface_line l' items k)) (take l.place (listed_sources l' items)));
 }

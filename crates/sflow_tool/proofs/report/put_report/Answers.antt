@@ -1,6 +1,4 @@
-use Rattle.std.proofs.Common.{ap}
-use Rattle.text_lines.proofs.PageLaws.{prints_first, prints_same, prints_second}
-use Rattle.report_lines.specs.Reports.{end_text}
+use Rattle.text_lines.proofs.PageLaws.{prints_first, prints_second}
 use Rattle.report_lines.specs.InterfaceLines.{report_with}
 use Rattle.sflow_tool.proofs.report.put_report.Goals as goal
 
@@ -30,4 +28,4 @@ returns g c = λ l items stands.
     prints_second _ _ _ _ _ _ _ _ _ (c.in_ok-put_streams.ensures l items stands)
     (prints_second _ _ _ _ _ _ _ _ _ (c.in_ok-put_sources.ensures l items stands)
     (prints_second _ _ _ _ _ _ _ _ _ (c.in_ok-put_interfaces_if.ensures l items stands)
-    (prints_same _ _ _ _ _ _ _ (ap end_text (c.totals.ensures l items stands)) c.put_end.ensures)))
+    (c.put_tail.ensures l items stands)))

@@ -10,7 +10,7 @@ use Rattle.sflow_tool.proofs.report.put_streams.Given as goal
 
 abbrev pub invariant-loop-place : goal.invariant-loop-place
 invariant-loop-place g l = record {
-  put : (l' : Limits) (items : List Item) → StandsFor l.collector l' items
+  put : (l' : Limits) (items : List Item) → StandsFor l.collector.books l' items
       → Puts (g.K.Sink.seen l.initial.sink) (g.K.Sink.seen l.sink) l.initial.page l.page
       (stream_texts 1 (take l.place (whole_books l' items).streams));
 }
