@@ -3,8 +3,8 @@
 
     compare/collect.py STREAMS SOURCES DATAGRAM_WIDTH SAMPLE_WIDTH BOOT_SLACK [--interfaces] < CAPTURE
 
-Prints what `sflow replay` is to print for a lawful capture under these limits, with `--interfaces` or without. It keeps all
-counted numbers.
+Prints what `sflow replay` is to print for a lawful capture under these limits, with `--interfaces` or without, the line of
+the headers' classes and those of the program's three consumers too. It keeps all counted numbers.
 """
 import sys
 
@@ -15,6 +15,99 @@ WORD = 1 << 32
 # Where the thirteen counters stand among the fields of a record of interface counters; those of bytes have 64 bits.
 COUNTERS = {place: WORD for place in range(5, 18)}
 COUNTERS[5] = COUNTERS[12] = WORD * WORD
+
+
+CLASSES = ("unscanned", "short", "length", "undefined", "arp", "ipv4", "ipv6", "other", "badip", "tagged", "tcp", "udp")
+
+# The greatest lengths of the first six ranges of frame lengths; the seventh is above them.
+LENGTHS = (64, 127, 255, 511, 1023, 1518)
+
+
+class Facts:
+    """What the first 128 bytes of a sampled header say: the kind, the VLAN, the protocol and the destination port."""
+
+    def __init__(self, protocol, header):
+        self.data = header[:128]
+        self.vlan = self.proto = self.port = None
+        layers = {1: self.ethernet, 11: lambda: self.ipv4(0), 12: lambda: self.ipv6(0)}
+        self.kind = layers[protocol]() if protocol in layers else "unscanned"
+
+    def number(self, at):
+        return int.from_bytes(self.data[at : at + 2], "big")
+
+    def ethernet(self):
+        if len(self.data) < 14:
+            return "short"
+        at = 12
+        if self.number(at) in (0x8100, 0x88A8) and len(self.data) >= 16:
+            self.vlan = self.number(14) % 4096
+        for _ in range(2):
+            if self.number(at) in (0x8100, 0x88A8):
+                at += 4
+                if at + 2 > len(self.data):
+                    return "short"
+        kind = self.number(at)
+        if kind <= 1500:
+            return "length"
+        if kind < 1536:
+            return "undefined"
+        layers = {0x0806: lambda base: "arp", 0x0800: self.ipv4, 0x86DD: self.ipv6}
+        return layers[kind](at + 2) if kind in layers else "other"
+
+    def ipv4(self, base):
+        if base + 20 > len(self.data):
+            return "short"
+        if self.data[base] // 16 != 4 or self.data[base] % 16 < 5:
+            return "badip"
+        if self.number(base + 6) % 8192 == 0:
+            self.transport(self.data[base + 9], base + self.data[base] % 16 * 4)
+        self.proto = self.data[base + 9]
+        return "ipv4"
+
+    def ipv6(self, base):
+        if base + 40 > len(self.data):
+            return "short"
+        if self.data[base] // 16 != 6:
+            return "badip"
+        self.proto = self.data[base + 6]
+        self.transport(self.proto, base + 40)
+        return "ipv6"
+
+    def transport(self, proto, at):
+        if proto in (6, 17) and at + 4 <= len(self.data):
+            self.port = self.number(at + 2)
+
+
+class Headers:
+    """How many headers of each class there are, and what the program's three consumers count."""
+
+    def __init__(self):
+        self.classes = dict.fromkeys(CLASSES, 0)
+        self.lengths = [0] * (len(LENGTHS) + 1)
+        self.ports = {}
+
+    def take(self, protocol, frame_length, header):
+        facts = Facts(protocol, header)
+        self.classes[facts.kind] += 1
+        self.classes["tagged"] += facts.vlan is not None
+        self.classes["tcp"] += facts.proto == 6
+        self.classes["udp"] += facts.proto == 17
+        self.lengths[sum(frame_length > most for most in LENGTHS)] += 1
+        if facts.port is not None:
+            self.ports[facts.port] = self.ports.get(facts.port, 0) + 1
+
+    def lines(self):
+        lines = []
+        count = sum(self.lengths)
+        if count:
+            lines.append("headers " + " ".join(f"{name} {number}" for name, number in self.classes.items()))
+        lines.append("tap length " + " ".join(map(str, self.lengths)))
+        if self.ports:
+            port = min(self.ports, key=lambda port: (-self.ports[port], port))
+            lines.append(f"tap port {port} count {self.ports[port]}")
+        else:
+            lines.append("tap port none")
+        return lines + [f"tap headers {count}"]
 
 
 class Window:
@@ -127,11 +220,13 @@ class Source:
             current.append(Generation(self.width, place))
         elif len(current) > 1 and place < current[-1].opened:
             self.stale += 1
-            return
-        if current[-1].window.enter(mark, *values):
-            current[-1].newest = max(current[-1].newest, place)
-            if interface:
-                current[-1].interfaces[current[-1].window.last] = interface
+            return False
+        if not current[-1].window.enter(mark, *values):
+            return False
+        current[-1].newest = max(current[-1].newest, place)
+        if interface:
+            current[-1].interfaces[current[-1].window.last] = interface
+        return True
 
     def interface_lines(self):
         generations = [generation for boot in self.boots for generation in boot]
@@ -164,6 +259,17 @@ def records_of(lines):
     return records
 
 
+def headers_of(records):
+    """The protocol, the frame length and the bytes of each sampled header."""
+    headers = []
+    for record in records:
+        name, *words = record.split()
+        if name == "header":
+            data = bytes() if words[8] == "-" else bytes.fromhex(words[8])
+            headers.append((int(words[1]), int(words[3]), data))
+    return headers
+
+
 def first_interface(records):
     """The fields of the first record of interface counters, or None."""
     for record in records:
@@ -176,7 +282,7 @@ def first_interface(records):
 def main():
     limits = [word for word in sys.argv[1:] if word != "--interfaces"]
     most_streams, most_sources, datagram_width, sample_width, slack = map(int, limits)
-    streams, sources, first_fault = {}, {}, None
+    streams, sources, first_fault, headers = {}, {}, None, Headers()
     total = dict.fromkeys(("entries", "malformed", "unlisted", "unlisted_samples", "other"), 0)
     for arrival, _, data in entries(sys.stdin.buffer.read()):
         total["entries"] += 1
@@ -212,7 +318,9 @@ def main():
             source = sources.setdefault(name, Source(number, stream, words[4], flow, sample_width))
             shown = [int(words[place]) for place in (8, 10, 6)] if flow else []
             interface = None if flow else first_interface(records[index])
-            source.enter((number_of_datagram, index), int(words[2]), interface, *shown)
+            if source.enter((number_of_datagram, index), int(words[2]), interface, *shown) and flow:
+                for header in headers_of(records[index]):
+                    headers.take(*header)
     for number, stream in enumerate(streams.values(), 1):
         agent, sub_agent = stream.name
         print(f"stream {number} agent {agent} sub {sub_agent} boots {len(stream.boots)} {summed(stream.boots)}",
@@ -223,6 +331,8 @@ def main():
         for source in sources.values():
             for line in source.interface_lines():
                 print(line)
+    for line in headers.lines():
+        print(line)
     if first_fault:
         print("fault entry {} at {} kind {}".format(*first_fault))
     print("total", " ".join(f"{name} {count}" for name, count in total.items()), "taps_ended 0")
