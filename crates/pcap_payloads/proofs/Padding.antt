@@ -1,5 +1,5 @@
 -- Zeros up to a multiple of four.
-use Rattle.std.proofs.Common.{◌≡◌, ◌≤◌, ◌+◌, ◌-◌, ◌%◌, ℕ, zero, suc, List, take, replicate, Result, refl, arith}
+use Rattle.std.proofs.Common.{◌≡◌, ◌≤◌, ◌-◌, ◌%◌, ℕ, zero, suc, List, take, replicate, Result, refl, arith}
 use Rattle.byte_ends.specs.Seen.{Seen}
 use Rattle.text_lines.specs.Pages.{Prints}
 use Rattle.text_lines.proofs.PageLaws.{prints_same}

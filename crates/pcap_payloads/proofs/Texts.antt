@@ -1,10 +1,9 @@
 -- The counts and the text of packets, one packet after the other.
-use Rattle.std.proofs.Common.{◌≡◌, ℕ, zero, suc, ◌+◌, ◌≤◌, Bool, true, false, cond, List, [], ◌∷◌, ◌++◌, length, flat_map, Result, Ok, Err, refl, sym, ap, ap₂, subst, ◌∙◌, append_assoc, append-nil, fold, arith, length-append}
+use Rattle.std.proofs.Common.{◌≡◌, ℕ, ◌+◌, Bool, true, false, cond, List, [], ◌∷◌, ◌++◌, length, Ok, Err, refl, sym, ap, ◌∙◌, append_assoc, append-nil, fold, arith, length-append}
 use Rattle.std.specs.List.{count_by}
 use Rattle.std.proofs.lemmas.Grind.{flat_map-append}
 use Rattle.wire_spec.specs.Captures.{capture_header}
 use Rattle.capture_spec.specs.declared.capture_version.CaptureVersion.TheVariants.{Two}
-use Rattle.capture_spec.specs.declared.passed.Passed.{Passed}
 use Rattle.capture_spec.specs.declared.passed.Passed.TheVariants.{Short, NotIp, BadIp, Fragment, NotUdp, BadLen, Cut, Port}
 use Rattle.capture_spec.specs.Items.{Received, end_item, item_bytes}
 use Rattle.capture_spec.specs.Payloads.{PayloadOutcome, payload_of}

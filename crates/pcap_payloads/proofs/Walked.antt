@@ -1,5 +1,5 @@
 -- A walk over the packets of an input, one packet after the other.
-use Rattle.std.proofs.Common.{◌≡◌, ℕ, ◌+◌, ◌≤◌, ◌^◌, List, [], ◌∷◌, ◌++◌, length, take, Option, Some, Ok, Err, refl, sym, ap, subst, ◌∙◌, arith, length-append}
+use Rattle.std.proofs.Common.{◌≡◌, ℕ, List, [], ◌∷◌, ◌++◌, length, take, Some, Ok, Err, refl, sym, ap, subst, ◌∙◌, arith, length-append}
 use Rattle.std.specs.Io.KnownBytes.{prepend_known}
 use Rattle.capture_spec.specs.Payloads.{payload_of}
 use Rattle.capture_spec.specs.PcapFiles.{Packet}

@@ -1,5 +1,5 @@
 -- What is written of the packets of a pcap file: a capture of their payloads, or how many became what.
-use Rattle.std.specs.Prelude.{ℕ, zero, suc, ◌+◌, Bool, true, false, List, [], ◌∷◌, ◌++◌, length, codes, decimal, Some, Result, Ok, Err}
+use Rattle.std.specs.Prelude.{ℕ, zero, suc, ◌+◌, Bool, true, false, List, [], ◌∷◌, ◌++◌, codes, decimal, Some, Ok, Err}
 use Rattle.std.specs.List.{concat, count_by, flat_map}
 use Rattle.wire_spec.specs.Captures.{capture_header}
 use Rattle.capture_spec.specs.declared.capture_version.CaptureVersion.TheVariants.{Two}
