@@ -14,6 +14,8 @@ use Rattle.capture_spec.specs.VersionedCaptures.{IsReceived, opened_bytes, whole
 use Rattle.account_spec.specs.Deliveries.{entry_of as sent_entry}
 use Rattle.account_laws.proofs.Lists.{all-append}
 use Rattle.delivered_items.specs.WholeRows.{whole_history, whole_deliveries, whole_account}
+use Rattle.sample_taps.specs.Classes.{no_classes}
+use Rattle.report_lines.specs.HeaderLines.{class_line, no_taps}
 use Rattle.report_lines.specs.InterfaceLines.{report_with}
 use Rattle.report_lines.specs.Lines.{stream_text, flow_text, counters_text, total_text}
 use Rattle.sflow_tool.specs.Headlines.{IsCaptureOf}
@@ -64,10 +66,11 @@ tested = refl
 pub whole_input_is_bytes : AreBytes (whole_bytes One (map (sent_by None) (reverse (map (sent_entry whole_history) whole_deliveries))))
 whole_input_is_bytes = tested_bytes whole_input tested
 
-pub written : report_with false whole_account
+pub written : report_with false whole_account (record no_classes { short = 7 }) no_taps
     ≡ codes "stream 1 agent 10.0.0.1 sub 0 boots 2 issued 7 received 6 pending 0 lost 1 repeated 1 late 0 stale 1\n"
     ++ codes "source 1 flow 0:5 generations 3 issued 8 received 7 pending 0 lost 1 repeated 0 late 0 stale 0 pool 6 drops 1 rate 1\n"
     ++ codes "source 1 counters 0:5 generations 1 issued 2 received 2 pending 0 lost 0 repeated 0 late 0 stale 0\n"
+    ++ codes "headers unscanned 0 short 7 length 0 undefined 0 arp 0 ipv4 0 ipv6 0 other 0 badip 0 tagged 0 tcp 0 udp 0\n"
     ++ codes "total entries 8 malformed 0 unlisted 0 unlisted_samples 0 other 0 taps_ended 0\n"
-unfolding digits stream_text flow_text counters_text total_text report_with
+unfolding digits stream_text flow_text counters_text class_line total_text report_with
 written = refl

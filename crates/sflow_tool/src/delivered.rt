@@ -14,6 +14,8 @@ ghost use Rattle.account_spec.specs.Premises.{Premises};
 ghost use Rattle.account_spec.specs.Rows.{usual};
 ghost use Rattle.delivered_items.specs.Accepted.{AreAccepted};
 ghost use Rattle.delivered_items.specs.WholeRows.{whole_history, whole_deliveries};
+ghost use Rattle.sample_taps.specs.Classes.{no_classes};
+ghost use Rattle.report_lines.specs.HeaderLines.{no_taps};
 ghost use Rattle.report_lines.specs.InterfaceLines.{report_with};
 ghost use Rattle.sflow_tool.specs.Headlines.{IsDelivered};
 
@@ -48,12 +50,13 @@ pub fn what_is_asked_is_met()
     whole_premises_row();
 }
 
-/// The report of it is that of the account.
+/// The report of it is that of the account; each of its seven flow samples that count has a header of no byte.
 pub fn what_is_reported()
-    ensures { report_with false (account usual whole_history whole_deliveries)
+    ensures { report_with false (account usual whole_history whole_deliveries) (record no_classes { short = 7 }) no_taps
         ≡ codes "stream 1 agent 10.0.0.1 sub 0 boots 2 issued 7 received 6 pending 0 lost 1 repeated 1 late 0 stale 1\n"
         ++ codes "source 1 flow 0:5 generations 3 issued 8 received 7 pending 0 lost 1 repeated 0 late 0 stale 0 pool 6 drops 1 rate 1\n"
         ++ codes "source 1 counters 0:5 generations 1 issued 2 received 2 pending 0 lost 0 repeated 0 late 0 stale 0\n"
+        ++ codes "headers unscanned 0 short 7 length 0 undefined 0 arp 0 ipv4 0 ipv6 0 other 0 badip 0 tagged 0 tcp 0 udp 0\n"
         ++ codes "total entries 8 malformed 0 unlisted 0 unlisted_samples 0 other 0 taps_ended 0\n" }
 {
     whole_account_row();
