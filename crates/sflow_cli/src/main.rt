@@ -5,8 +5,11 @@ ghost use Rattle.std.specs.Prelude.{◌≡◌};
 ghost use Rattle.std.specs.Process.{exit_status};
 ghost use Rattle.command_runs.specs.Statuses.{code_of};
 
-use sflow_tool::{InputSource, OutputSink, Seeds, Status, SystemClock, UdpLink, run};
-use std::alloc::Global;
+use sflow_tool::{
+    CountTap, InputSource, LengthTap, OutputSink, Seeds, Status, SystemClock, Tap, Taps,
+    TopPortTap, UdpLink, run,
+};
+use std::alloc::{AllocError, Global};
 use std::env::Env;
 use std::hash::RandomState;
 use std::process::ExitCode;
@@ -17,6 +20,9 @@ use std::{env, io};
 const NO_WORDS: u8 = 9;
 
 const NO_RANDOM_BYTES: u8 = 10;
+
+// So many headers that the count of them is never done: 2^63.
+const MANY_HEADERS: u64 = 9_223_372_036_854_775_808;
 
 // Why there is no run.
 #[derive(Clone, Copy, Debug, PartialEq, Eq)]
@@ -94,6 +100,21 @@ fn end_without_run(rt: &impl Eprint, lack: Lack) -> ExitCode {
     }
 }
 
+// The consumers of sampled headers, in the order of their lines.
+struct Consumers {
+    lengths: Box<LengthTap>,
+    ports: Box<TopPortTap>,
+    headers: Box<CountTap>,
+}
+
+fn new_consumers(alloc: Global) -> Result<Consumers, AllocError> {
+    Ok(Consumers {
+        lengths: Box::new(alloc, LengthTap::new())?,
+        ports: Box::new(alloc, TopPortTap::open(alloc)?)?,
+        headers: Box::new(alloc, CountTap::new(MANY_HEADERS))?,
+    })
+}
+
 fn main(rt: HostRuntime) -> ExitCode {
     let seeds = match seeds(&rt) {
         Ok(seeds) => seeds,
@@ -103,9 +124,30 @@ fn main(rt: HostRuntime) -> ExitCode {
         Ok(words) => words,
         Err(lack) => return end_without_run(&rt, lack),
     };
+    let Ok(Consumers {
+        lengths,
+        ports,
+        headers,
+    }) = new_consumers(rt.alloc())
+    else {
+        return end_run(&rt, &Status::Memory);
+    };
+    let boxes: [Box<dyn Tap>; 3] = [lengths, ports, headers];
+    let Ok(boxes) = Vec::from_array(rt.alloc(), boxes) else {
+        return end_run(&rt, &Status::Memory);
+    };
+    let mut taps = Taps::new(boxes);
     let mut source = InputSource::new(rt);
     let mut sink = OutputSink::new(rt);
     let mut link = UdpLink::new(rt, SystemClock::new(rt));
-    let status = run(rt.alloc(), &words, seeds, &mut source, &mut sink, &mut link);
+    let status = run(
+        rt.alloc(),
+        &words,
+        seeds,
+        &mut source,
+        &mut sink,
+        &mut link,
+        &mut taps,
+    );
     end_run(&rt, &status)
 }

@@ -16,12 +16,13 @@ use std::{fs, io};
 use table::Table;
 
 // What rows share comes first.
-const TABLES: [&str; 14] = [
+const TABLES: [&str; 15] = [
     "parts.txt",
     "words.txt",
     "replay.txt",
     "sources.txt",
     "interfaces.txt",
+    "taps.txt",
     "show.txt",
     "check.txt",
     "records.txt",

@@ -21,6 +21,19 @@ pub struct Row {
     pub output: Vec<u8>,
     /// How many bytes of the input the source still has, where that is compared.
     pub left: Option<usize>,
+    /// The consumers that are handed in, in order.
+    pub taps: Vec<Consumer>,
+    /// The lines of those that are held after the run, where they are compared.
+    pub held: Option<String>,
+}
+
+/// A consumer of sampled headers.
+#[derive(Clone, Copy, Drop)]
+pub enum Consumer {
+    Length,
+    Port,
+    /// It is done at this count.
+    Count(u64),
 }
 
 impl Row {
@@ -38,6 +51,8 @@ impl Row {
             status: String::from_str(alloc, "0")?,
             output: Vec::new(alloc),
             left: None,
+            taps: Vec::new(alloc),
+            held: None,
         })
     }
 }

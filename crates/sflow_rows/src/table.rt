@@ -1,6 +1,6 @@
 //! The lines of a table; data/parts.txt says what each of them means.
 use crate::misread::Misread;
-use crate::row::Row;
+use crate::row::{Consumer, Row};
 use crate::spelling::{Part, append};
 use std::alloc::Global;
 
@@ -132,6 +132,8 @@ fn take_of_row(
             row.left = Some(rest.parse::<usize>()?);
             Ok(())
         }
+        "taps" => take_taps(&mut row.taps, rest),
+        "held" => take_held(row, alloc, rest),
         "status" => {
             row.status = String::from_str(alloc, rest)?;
             Ok(())
@@ -146,6 +148,33 @@ fn take_words_of(words: &mut Vec<String>, alloc: Global, rest: &str) -> Result<(
         let word = if word == "''" { "" } else { word };
         words.push(String::from_str(alloc, word)?)?;
     }
+    Ok(())
+}
+
+// The words `length` and `port`, and for a count the number at which it is done.
+fn take_taps(taps: &mut Vec<Consumer>, rest: &str) -> Result<(), Misread> {
+    for word in rest.split_whitespace() {
+        let tap = match word {
+            "length" => Consumer::Length,
+            "port" => Consumer::Port,
+            _ => Consumer::Count(word.parse::<u64>()?),
+        };
+        taps.push(tap)?;
+    }
+    Ok(())
+}
+
+// The line of a consumer that is held after the run; without a text none is.
+fn take_held(row: &mut Row, alloc: Global, rest: &str) -> Result<(), Misread> {
+    let mut held = String::from_str(alloc, "")?;
+    if let Some(lines) = &row.held {
+        held.push_str(lines)?;
+    }
+    if !rest.is_empty() {
+        held.push_str(rest)?;
+        held.push_str("\n")?;
+    }
+    row.held = Some(held);
     Ok(())
 }
 

@@ -1,6 +1,9 @@
 //! A row's runs over the memory forms of the outside.
-use crate::row::Row;
-use sflow_tool::{MemoryLink, MemorySink, MemorySource, Seeds, Source, Status, run};
+use crate::row::{Consumer, Row};
+use sflow_tool::{
+    CountTap, LengthTap, MemoryLink, MemorySink, MemorySource, Seeds, Source, Status, Tap, Taps,
+    TopPortTap, run,
+};
 use std::alloc::{AllocError, Global};
 
 // The piece that a read moves where the row names none.
@@ -40,7 +43,24 @@ fn difference_in_pieces(
     let mut source = MemorySource::new(bytes, piece.max(1), read_fails);
     let mut sink = MemorySink::new(alloc, row.room, write_fails);
     let mut link = MemoryLink::new(alloc, Vec::new(alloc), Vec::new(alloc));
-    let status = run(alloc, &row.words, seeds, &mut source, &mut sink, &mut link);
+    let mut boxes: Vec<Box<dyn Tap>> = Vec::new(alloc);
+    for tap in &row.taps {
+        match tap {
+            Consumer::Length => boxes.push(Box::new(alloc, LengthTap::new())?)?,
+            Consumer::Port => boxes.push(Box::new(alloc, TopPortTap::open(alloc)?)?)?,
+            Consumer::Count(limit) => boxes.push(Box::new(alloc, CountTap::new(*limit))?)?,
+        }
+    }
+    let mut taps = Taps::new(boxes);
+    let status = run(
+        alloc,
+        &row.words,
+        seeds,
+        &mut source,
+        &mut sink,
+        &mut link,
+        &mut taps,
+    );
     let status = shown(alloc, &status)?;
     if status.as_str() != row.status.as_str() {
         return Ok(Some(format!(in alloc; "status {status}")?));
@@ -52,6 +72,12 @@ fn difference_in_pieces(
     if sink.lacked() != 0 {
         return Ok(Some(String::from_str(alloc, "the sink lacked memory")?));
     }
+    if let Some(want) = &row.held {
+        let held = held_lines(alloc, &taps)?;
+        if held.as_str() != want.as_str() {
+            return Ok(Some(format!(in alloc; "held {held:?}")?));
+        }
+    }
     let Some(want) = row.left else {
         return Ok(None);
     };
@@ -60,6 +86,16 @@ fn difference_in_pieces(
         return Ok(Some(format!(in alloc; "left {}", left.len())?));
     }
     Ok(None)
+}
+
+// The lines of the consumers that are held.
+fn held_lines(alloc: Global, taps: &Taps) -> Result<String, AllocError> {
+    let mut lines = String::from_str(alloc, "")?;
+    for place in 0..taps.len() {
+        lines.push_str(taps.line(place).as_str())?;
+        lines.push_str("\n")?;
+    }
+    Ok(lines)
 }
 
 // The code of the status, and its text where it has one.
