@@ -124,11 +124,13 @@ fn main(rt: HostRuntime) -> ExitCode {
         Ok(words) => words,
         Err(lack) => return end_without_run(&rt, lack),
     };
-    let Ok(Consumers {
-        lengths,
-        ports,
-        headers,
-    }) = new_consumers(rt.alloc())
+    let Ok(
+        Consumers {
+            lengths,
+            ports,
+            headers,
+        },
+    ) = new_consumers(rt.alloc())
     else {
         return end_run(&rt, &Status::Memory);
     };
