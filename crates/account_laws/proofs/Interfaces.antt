@@ -11,7 +11,7 @@ use Rattle.books_spec.specs.Books.{stream_number}
 use Rattle.books_spec.specs.PlacedSamples.{interface_samples, interface_boots}
 use Rattle.books_spec.specs.WholeBooks.{carried, interface_of, with_view, interface_line, whole_books}
 use Rattle.books_spec.proofs.Keys.{source-same}
-use Rattle.agent_spec.specs.Sources.{FlowSetup, CounterSetup}
+use Rattle.agent_spec.specs.Sources.{CounterSetup}
 use Rattle.agent_spec.specs.Sources as agents
 use Rattle.agent_spec.specs.Samples.{Sample}
 use Rattle.agent_spec.specs.Boots.{IsAmong}

@@ -7,7 +7,7 @@ use Rattle.std.specs.List.{count_by}
 use Rattle.std.proofs.lemmas.Int.{ints}
 use Rattle.std.proofs.lemmas.Bool.{cases_Bool}
 use Rattle.std.proofs.lemmas.List.{length-map}
-use Rattle.count_spec.specs.Windows.{near, mark_of, greatest, least, has, AreDistinct, place, number_answer, answer, answers, counting, counted, is_newest, is_first, late_count, repeat_count}
+use Rattle.count_spec.specs.Windows.{near, mark_of, greatest, least, has, AreDistinct, place, number_answer, answer, answers, counting, counted, is_newest, late_count, repeat_count}
 use Rattle.count_spec.specs.Windows as windows
 use Rattle.count_spec.specs.declared.entered.Place.{Place}
 use Rattle.count_spec.specs.declared.entered.Place.TheVariants.{Newest, Least, Inside}

@@ -16,11 +16,11 @@ use Rattle.count_spec.proofs.Counts.{count_by-no}
 use Rattle.books_spec.specs.declared.limits.Limits.{Limits}
 use Rattle.books_spec.specs.declared.taken.Taken.TheVariants.{Unlisted}
 use Rattle.books_spec.specs.declared.totals.FirstFault.{FirstFault}
-use Rattle.books_spec.specs.Items.{Item, Stream, Source, stamp_of}
+use Rattle.books_spec.specs.Items.{Stream, Source, stamp_of}
 use Rattle.books_spec.specs.Items as items
 use Rattle.books_spec.specs.Listing.{same_stream, same_source, among, first_arrivals, unlisted}
 use Rattle.books_spec.specs.Views.{figures_of, figures_over, sum_over, view_with}
-use Rattle.books_spec.specs.Books.{onto, is_malformed, first_fault, fault_after, streams_of, listed_streams, stream_boots, taken_of, taken_at, taken_in, taken_now, samples_at, entered_in, entered, source_of, sources_of, listed_sources, is_other, StreamBooks, stream_books, stream_number, totals}
+use Rattle.books_spec.specs.Books.{onto, is_malformed, first_fault, fault_after, streams_of, listed_streams, stream_boots, taken_of, taken_at, taken_in, taken_now, samples_at, entered_in, entered, source_of, sources_of, listed_sources, is_other, stream_books, stream_number, totals}
 use Rattle.books_spec.specs.Books as books
 use Rattle.books_spec.specs.WholeBooks.{source_line, whole_books}
 use Rattle.books_spec.proofs.Keys.{stream-same, source-same}

@@ -1,11 +1,11 @@
 -- What a history that may happen says of the set-ups of its events.
-use Rattle.std.proofs.Common.{◌≡◌, ℕ, inl, inr, Bool, true, false, List, [], ◌∷◌, refl, sym, ap, subst, ◌∙◌}
+use Rattle.std.proofs.Common.{◌≡◌, true, false, List, [], ◌∷◌, sym, ap, ◌∙◌}
 use Rattle.std.proofs.lemmas.Bool.{true≢false}
 use Rattle.std.specs.List.{AllByRecursion}
-use Rattle.agent_spec.specs.Sources.{Source, same_source, FlowSetup, CounterSetup}
+use Rattle.agent_spec.specs.Sources.{same_source, FlowSetup, CounterSetup}
 use Rattle.agent_spec.specs.Samples.{Setup}
 use Rattle.agent_spec.specs.Events.{Event, Observe, Poll, Send, Reset}
-use Rattle.agent_spec.specs.Boots.{IsAmong, MayHappen}
+use Rattle.agent_spec.specs.Boots.{MayHappen}
 use Rattle.agent_spec.specs.Orders.{NumbersBegin, HasFirst, IsOfSetup, IsOnlySetup, HasOneSetup}
 
 pub only : (f : FlowSetup) (s : Setup) (events : List Event) → HasOneSetup f s → MayHappen s events → IsOnlySetup f s events

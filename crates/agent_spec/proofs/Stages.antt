@@ -1,12 +1,12 @@
 -- The stage holds no more samples than it has places.
-use Rattle.std.proofs.Common.{◌≡◌, ℕ, zero, suc, ◌+◌, ◌≤◌, ◌<◌, inl, inr, Bool, true, false, cond, List, [], ◌∷◌, length, reverse, take, drop, refl, ap, ◌∙◌, arith, length-drop}
+use Rattle.std.proofs.Common.{◌≡◌, ℕ, ◌+◌, ◌≤◌, ◌<◌, Bool, true, false, cond, List, [], ◌∷◌, length, reverse, take, drop, refl, arith, length-drop}
 use Rattle.std.proofs.lemmas.Bool.{ltb-true}
 use Rattle.std.proofs.lemmas.List.{length-reverse}
 use Rattle.std.specs.Prelude.{nat_lt}
 use Rattle.std.specs.List.{sum_by}
 use Rattle.wire_spec.specs.Shapes.{Tree}
 use Rattle.agent_spec.specs.Sources.{Turn, FlowSetup, CounterSetup}
-use Rattle.agent_spec.specs.Samples.{Packet, Sample, Setup}
+use Rattle.agent_spec.specs.Samples.{Packet, Setup}
 use Rattle.agent_spec.specs.Events.{Event, Observe, Poll, Send, Reset, turn_after}
 use Rattle.agent_spec.specs.Marks.{is_marked}
 use Rattle.agent_spec.specs.Boots.{Boot, seen_in, issue, flow_sample, with_seen, with_dropped, after_packet, due_sources, counter_sample, with_polled, after_poll, packed, happened, MayHappen}

@@ -1,14 +1,14 @@
 -- The sampled headers that count: those of the First flow samples.
 -- Items have the LATEST FIRST. The headers of a sample stand in the order of its records, and those that count in order
 -- of arrival.
-use Rattle.std.specs.Prelude.{ℕ, Bool, true, false, cond, ◌&&◌, List, [], ◌∷◌, ◌++◌, map}
+use Rattle.std.specs.Prelude.{ℕ, Bool, false, cond, ◌&&◌, List, [], ◌∷◌, ◌++◌, map}
 use Rattle.count_spec.specs.Windows.{is_first}
 use Rattle.books_spec.specs.declared.limits.Limits.{Limits}
 use Rattle.books_spec.specs.declared.reading.SampleReading.{SampleReading}
 use Rattle.books_spec.specs.declared.sample_place.SamplePlace.{SamplePlace}
 use Rattle.books_spec.specs.declared.booked.Booked.{Booked}
 use Rattle.books_spec.specs.declared.booked.Booked.TheVariants.{Entered, Past}
-use Rattle.books_spec.specs.Items.{SourceId, Sample, Of, Carrying, Other, Datagram, Item, Got, Malformed, Stream, stream_of, Source}
+use Rattle.books_spec.specs.Items.{SourceId, Sample, Of, Carrying, Other, Datagram, Item, Got, Malformed, stream_of, Source}
 use Rattle.books_spec.specs.Listing.{same_stream, same_source, among}
 use Rattle.books_spec.specs.Books.{stream_boots, listed_streams, listed_sources, stream_number}
 use Rattle.books_spec.specs.Generations.{booked}

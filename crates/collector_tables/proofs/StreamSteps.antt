@@ -11,7 +11,7 @@ use Rattle.books_spec.specs.declared.taken.Taken.TheVariants.{Unlisted}
 use Rattle.books_spec.proofs.Listings.{symmetric, listed-known, listed-new, listed-full, listed-all, listed-distinct, first_arrivals-all}
 use Rattle.books_spec.proofs.Entered.{own-none}
 use Rattle.books_spec.proofs.Keys.{stream-same}
-use Rattle.stream_books.specs.Receipts.{receipt_at, receipt_in}
+use Rattle.stream_books.specs.Receipts.{receipt_in}
 use Rattle.stream_books.specs.Streams.{StreamState, StandsFor, IsAt}
 use Rattle.stream_books.proofs.Receipts.{receipt-taken}
 use Rattle.stream_books.specs.declared.taken.Receipt.{Receipt}

@@ -1,8 +1,8 @@
 -- Runs of a command over a capture, whose visitor does what the command's row says.
-use Rattle.std.proofs.Common.{◌≡◌, ◌≢◌, ℕ, true, inl, inr, if◌then◌else◌, nat_lt, List, [], ◌++◌, Option, Some, None, Result, Ok, Err, refl, sym, ap, subst, ◌∙◌}
+use Rattle.std.proofs.Common.{◌≡◌, ℕ, true, inl, inr, nat_lt, List, [], ◌++◌, Option, Result, Ok, Err, refl, sym, ap, subst, ◌∙◌}
 use Rattle.std.specs.Io.KnownBytes.{IsAtEnd}
 use Rattle.std.proofs.lemmas.List.Elements.{All-nil}
-use Rattle.byte_ends.specs.Seen.{Seen, TakesPart}
+use Rattle.byte_ends.specs.Seen.{Seen}
 use Rattle.capture_spec.specs.declared.capture_version.CaptureVersion.{CaptureVersion}
 use Rattle.capture_spec.specs.declared.capture_version.CaptureVersion.TheVariants.{One}
 use Rattle.capture_spec.specs.Items.{Received}

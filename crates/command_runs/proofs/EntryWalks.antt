@@ -1,12 +1,12 @@
 -- Two walks over the entries of one capture.
-use Rattle.std.proofs.Common.{◌≡◌, ℕ, ◌+◌, ◌<◌, List, [], ◌∷◌, ◌++◌, length, take, drop, flat_map, All, refl, sym, ap, subst, ◌∙◌, append_assoc, append-nil, arith, take_at, take-append-drop}
+use Rattle.std.proofs.Common.{◌≡◌, ℕ, ◌+◌, List, [], ◌∷◌, ◌++◌, length, take, drop, All, refl, sym, ap, ◌∙◌, append_assoc, arith, take_at, take-append-drop}
 use Rattle.std.proofs.lemmas.Grind.{flat_map-append}
 use Rattle.std.proofs.lemmas.List.{append_cancel_left}
 use Rattle.std.proofs.lemmas.List.Elements.{All-head, All-tail, All-take}
 use Rattle.wire_spec.specs.Captures.{capture_header}
 use Rattle.capture_spec.specs.declared.capture_version.CaptureVersion.{CaptureVersion}
 use Rattle.capture_spec.specs.declared.capture_version.CaptureVersion.TheVariants.{One, Two}
-use Rattle.capture_spec.specs.Items.{Received, word}
+use Rattle.capture_spec.specs.Items.{Received}
 use Rattle.capture_spec.specs.ItemReading.{Front, Holds, front_in}
 use Rattle.capture_spec.specs.VersionedCaptures.{IsReceived, ReceivedThen, all_received, opened_bytes, received_bytes, version_number}
 use Rattle.capture_spec.proofs.ItemFrontsBack.{back_in}

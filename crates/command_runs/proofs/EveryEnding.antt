@@ -1,9 +1,8 @@
 -- Each input makes a run of a command over a capture end in some way.
-use Rattle.std.proofs.Common.{◌≡◌, ℕ, ◌+◌, ◌<◌, ◌≤◌, ◌^◌, ◌⊎◌, Bool, true, false, ◌==◌, inl, inr, if◌then◌else◌, List, [], ◌∷◌, ◌++◌, length, take, drop, All, bytes_eq, Ok, Err, refl, sym, ap, subst, ◌∙◌, append_assoc, arith, length-append, length-take-le, length-drop, take_at, take-append-drop}
+use Rattle.std.proofs.Common.{◌≡◌, ℕ, ◌<◌, ◌≤◌, ◌^◌, ◌⊎◌, Bool, true, false, ◌==◌, inl, inr, List, [], ◌∷◌, ◌++◌, length, take, drop, All, Ok, Err, refl, sym, ap, subst, ◌∙◌, append_assoc, arith, length-append, length-take-le, length-drop, take_at}
 use Rattle.std.specs.Int.{w32, to_be_bytes}
 use Rattle.std.proofs.lemmas.Bool.{cases_lt, both_ways, eq-eqb, eqb-true}
 use Rattle.std.proofs.lemmas.List.Elements.{All-drop, All-head}
-use Rattle.std.proofs.lemmas.Slice.Eq.{bytes_eq-Decides}
 use Rattle.wire_spec.specs.declared.input_kind.InputKind.{InputKind}
 use Rattle.wire_spec.specs.declared.input_kind.InputKind.TheVariants.{Magic, Version}
 use Rattle.wire_spec.specs.Bytes.{AreBytes, BeginsWith}

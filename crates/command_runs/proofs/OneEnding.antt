@@ -1,11 +1,11 @@
 -- An input makes a run of a command over a capture end in one way.
-use Rattle.std.proofs.Common.{◌≡◌, ℕ, ◌+◌, ◌<◌, ◌≤◌, ◌^◌, Bool, true, false, if◌then◌else◌, inl, inr, List, [], ◌∷◌, ◌++◌, length, Err, refl, sym, ap, subst, ◌∙◌, arith, length-append, take, take_at}
+use Rattle.std.proofs.Common.{◌≡◌, ℕ, ◌+◌, ◌<◌, ◌≤◌, ◌^◌, Bool, true, false, if◌then◌else◌, inl, inr, List, ◌∷◌, ◌++◌, length, Err, refl, sym, ap, subst, ◌∙◌, arith, length-append}
 use Rattle.wire_spec.specs.declared.input_kind.InputKind.{InputKind}
 use Rattle.capture_spec.specs.declared.capture_version.CaptureVersion.{CaptureVersion}
 use Rattle.capture_spec.specs.declared.capture_version.CaptureVersion.TheVariants.{One, Two}
 use Rattle.capture_spec.specs.Items.{Received, end_item, hyper, word}
 use Rattle.capture_spec.specs.ItemReading.{Breaks, Front, Holds, Stops, front_in, received_reading}
-use Rattle.capture_spec.specs.VersionedCaptures.{IsNumber, ReceivedAll, ReceivedFault, ReceivedOutcome, ReceivedThen, ending_bytes, opened_bytes, whole_bytes}
+use Rattle.capture_spec.specs.VersionedCaptures.{ReceivedAll, ReceivedFault, ReceivedOutcome, ReceivedThen, ending_bytes, opened_bytes}
 use Rattle.capture_spec.proofs.ItemFrontsBack.{back_in}
 use Rattle.capture_spec.proofs.VersionedOutcomes.{outcome_back}
 use Rattle.capture_spec.proofs.Words.{reads_word}
@@ -16,7 +16,7 @@ use Rattle.command_runs.specs.declared.status.Status.TheVariants.{Done, Found, U
 use Rattle.command_runs.specs.Acts.{Act}
 use Rattle.command_runs.specs.Grammars.{Capture, captures}
 use Rattle.command_runs.specs.Readings.{Decides, IsRead}
-use Rattle.command_runs.proofs.EntryWalks.{Compared, compared, longer, one_version, same, shorter, with_header}
+use Rattle.command_runs.proofs.EntryWalks.{compared, longer, one_version, same, shorter, with_header}
 
 abbrev capture_of : CaptureVersion → List Received → Capture
 capture_of v es = record { version = v; entries = es }

@@ -1,5 +1,5 @@
 -- What was taken of a capture by the time that a run ends.
-use Rattle.std.proofs.Common.{◌≡◌, ℕ, List, [], Option, Some, Result, Ok, Err, refl}
+use Rattle.std.proofs.Common.{ℕ, List, [], Option, Err, refl}
 use Rattle.capture_spec.specs.declared.capture_version.CaptureVersion.{CaptureVersion}
 use Rattle.capture_spec.specs.declared.capture_version.CaptureVersion.TheVariants.{One}
 use Rattle.capture_spec.specs.Items.{Received}
@@ -7,10 +7,8 @@ use Rattle.byte_ends.specs.Seen.{Seen}
 use Rattle.sflow_io.specs.CaptureSteps.{EndsAt}
 use Rattle.sflow_io.specs.declared.capture.ReadRefusal.{ReadRefusal}
 use Rattle.sflow_io.specs.declared.capture.ReadRefusal.TheVariants as refusals
-use Rattle.command_runs.specs.declared.status.Status.{Status}
 use Rattle.command_runs.specs.declared.status.Status.TheVariants.{Memory}
 use Rattle.command_runs.specs.Endings.{refusal_status}
-use Rattle.command_runs.specs.Grammars.{Capture}
 use Rattle.command_runs.specs.Visits.{HasRead, HasVisited}
 
 -- the last answer of a reader says what was read

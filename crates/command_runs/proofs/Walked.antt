@@ -15,7 +15,7 @@ use Rattle.sflow_io.specs.declared.sender.Sender.{Sender}
 use Rattle.sflow_io.specs.Senders.{sender_in}
 use Rattle.sflow_io.specs.declared.capture.ReadRefusal.{ReadRefusal}
 use Rattle.sflow_io.specs.CaptureAnswers.{HasEnded, IsStageAfter, ReaderState, number_in, version_in}
-use Rattle.sflow_io.specs.CaptureSteps.{EndsAt, HasGiven, HasGivenAt, IsAllIn, IsAllOf, BeginsWithEntries, with_answer}
+use Rattle.sflow_io.specs.CaptureSteps.{HasGiven, HasGivenAt, IsAllIn, IsAllOf, BeginsWithEntries, with_answer}
 use Rattle.byte_ends.specs.Seen.{Seen, TakesPart}
 use Rattle.text_lines.specs.Pages.{Puts}
 use Rattle.text_lines.proofs.PageLaws.{puts_none, puts_both, puts_part}

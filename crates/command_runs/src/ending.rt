@@ -6,15 +6,13 @@ use crate::Status;
 use sflow_io::{ReadRefusal, Sink};
 use std::alloc::{AllocError, Global};
 use text_lines::Page;
-
-// The most bytes of a datagram.
-const ROOM: usize = 65_535;
+use wire_spec::MAX_DATAGRAM;
 
 /// Room for the bytes of an entry.
 pub fn new_room(alloc: Global) -> Result<Vec<u8>, AllocError>
     ensures { IfOk result (λ room. vec_len room ≡ 65535) }
 {
-    vec![in alloc; 0u8; ROOM]
+    vec![in alloc; 0u8; MAX_DATAGRAM]
 }
 
 /// The status that names the refusal.

@@ -10,9 +10,7 @@ ghost use Rattle.command_runs.specs.Walks.{AreCounts, HasWalkCause, IsFresh, Rea
 use capture_spec::CaptureVersion;
 use sflow_io::{CaptureReader, Failed, Next, ReadRefusal, Sender, Sink, Source};
 use text_lines::Page;
-
-// A reader gives at most so many entries.
-const MOST: u64 = 1 << 48;
+use wire_spec::MAX_ENTRIES;
 
 /// What is done with each entry of a capture, and behind the last one.
 pub trait EntryVisitor {
@@ -107,7 +105,7 @@ pub(crate) fn visit_entries<S: Source, K: Sink, V: EntryVisitor>(
     ensures cause { HasWalkCause (S.seen source.old) (S.seen source.new) result }
 {
     let mut marked = 0;
-    for count in 0..MOST + 1 {
+    for count in 0..MAX_ENTRIES + 1 {
         match reader.next(source, room) {
             Ok(Next::Entry { at, from, len }) => {
                 let bytes = &room[..len];

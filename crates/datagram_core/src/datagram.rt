@@ -18,11 +18,8 @@ use crate::check::SampleCheck;
 use crate::{DatagramHead, Samples};
 use data_format::{Address, Fault, FaultKind, Frames};
 use std::marker::Model;
-use wire_spec::Pad;
+use wire_spec::{MAX_DATAGRAM, Pad};
 use xdr_words::Cursor;
-
-/// The most bytes that a datagram has.
-const MOST: usize = 65_535;
 
 /// A datagram that was read from borrowed bytes: its head and its samples.
 #[derive(Drop)]
@@ -89,9 +86,9 @@ impl<'a> Datagram<'a> {
 fn parse_parts(bytes: &[u8], pad: Pad) -> Result<Datagram<'_>, Fault>
     ensures { Gives parts_of (λ f. f) result (parts_reading pad samples_read bytes.now) }
 {
-    if bytes.len() > MOST {
+    if bytes.len() > MAX_DATAGRAM {
         return Err(Fault {
-            at: MOST,
+            at: MAX_DATAGRAM,
             kind: FaultKind::TooLong,
         });
     }

@@ -8,10 +8,8 @@ use crate::writer_parts::{
 };
 use crate::{DatagramHead, Record, RecordKind};
 use data_format::{CountersHead, FlowHead, Form, Format};
+use wire_spec::MAX_DATAGRAM;
 use xdr_words::OutFull;
-
-/// The most bytes that a datagram has.
-const MOST: usize = 65_535;
 
 /// A sample that is begun. Places count bytes from the room's first byte on.
 #[derive(Clone, Copy, Drop)]
@@ -74,7 +72,7 @@ impl<'b> DatagramWriter<'b> {
         ensures full { IfErr result (λ e. e.room < e.need) }
     {
         let need = front_length(head);
-        let left = room.len().min(MOST);
+        let left = room.len().min(MAX_DATAGRAM);
         if left < need {
             return Err(OutFull { need, room: left });
         }
@@ -236,7 +234,7 @@ impl<'b> DatagramWriter<'b> {
         ensures room { IfErr result (λ e. e.room ≡ left_of self.now) }
         ensures short { IfErr result (λ e. left_of self.now < need) }
     {
-        let room = self.room.len().min(MOST) - self.len;
+        let room = self.room.len().min(MAX_DATAGRAM) - self.len;
         if room < need {
             return Err(OutFull { need, room });
         }

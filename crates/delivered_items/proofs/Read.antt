@@ -13,7 +13,7 @@ use Rattle.wire_spec.proofs.OneReading.{whole_taken}
 use Rattle.wire_spec.proofs.Spellings.{lawful_spelled}
 use Rattle.data_format.proofs.Values.{head_in-tree}
 use Rattle.datagram_core.specs.Tables.{flow_records_read, counter_records_read, samples_read, datagram_read}
-use Rattle.books_spec.specs.Items.{Item, Got, Stream}
+use Rattle.books_spec.specs.Items.{Got, Stream}
 use Rattle.books_spec.specs.Items as items
 use Rattle.books_spec.specs.Listing.{same_stream}
 use Rattle.books_spec.proofs.Keys.{stream-same}

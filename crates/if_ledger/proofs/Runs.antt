@@ -1,10 +1,9 @@
 -- What one more sample of a source makes of the runs of its ledger.
-use Rattle.std.proofs.Common.{◌≡◌, ℕ, suc, ◌+◌, ◌≤◌, ◌<◌, Bool, true, false, cond, ◌||◌, Option, Some, None, List, [], ◌∷◌, ◌++◌, length, map, ℤ, pos, ◌-ℤ◌, refl, sym, ap, subst, ◌∙◌, true≢false, arith}
+use Rattle.std.proofs.Common.{◌≡◌, ℕ, ◌+◌, ◌≤◌, ◌<◌, Bool, true, false, cond, ◌||◌, Option, Some, None, List, [], ◌∷◌, ◌++◌, length, map, ℤ, pos, ◌-ℤ◌, refl, sym, ap, subst, ◌∙◌, true≢false, arith}
 use Rattle.std.specs.Prelude.{int_le}
 use Rattle.std.specs.Ordering.{int_eq}
-use Rattle.std.specs.List.{sum_by}
 use Rattle.std.proofs.lemmas.List.Sums.{sum_by-cons}
-use Rattle.count_spec.specs.Windows.{near, greatest, has, place, number_answer, answer, counting, counted, is_first, is_late}
+use Rattle.count_spec.specs.Windows.{near, greatest, has, place, number_answer, answer, counting, counted, is_first}
 use Rattle.count_spec.specs.Stretches.{placed}
 use Rattle.count_spec.specs.declared.entered.Place.{Place}
 use Rattle.count_spec.specs.declared.entered.Entered as window
@@ -12,14 +11,14 @@ use Rattle.count_spec.specs.declared.entered.Entered.TheVariants.{First, Repeat,
 use Rattle.count_spec.specs.declared.stretch_place.StretchPlace.{StretchPlace}
 use Rattle.count_spec.specs.declared.stretch_place.StretchPlace.TheVariants.{Current, Next, Stale}
 use Rattle.books_spec.specs.declared.booked.Booked.{Booked}
-use Rattle.books_spec.specs.declared.booked.Booked.TheVariants.{Entered, Past}
+use Rattle.books_spec.specs.declared.booked.Booked.TheVariants.{Entered}
 use Rattle.books_spec.specs.Generations.{generation_place, generations, booked_at, booked}
 use Rattle.books_spec.specs.SourceViews.{joined, with_current}
 use Rattle.books_spec.specs.PlacedSamples.{InterfaceSample}
 use Rattle.books_spec.specs.InterfaceRise.{InterfaceCounters, NumberedCounters, with_counters, first_counters}
-use Rattle.books_spec.specs.WholeBooks.{place_seen, mark_seen, counters_seen, carried}
+use Rattle.books_spec.specs.WholeBooks.{place_seen, mark_seen, counters_seen}
 use Rattle.if_ledger.specs.Ledgers.{IfState, StandsFor, numbers_in}
-use Rattle.if_ledger.specs.Boots.{runs_of, runs_before, IsLastRun, IsRunIn, IsRunOf, StandsForBoots, added, Takes, TakesAny}
+use Rattle.if_ledger.specs.Boots.{runs_of, runs_before, IsLastRun, IsRunIn, StandsForBoots, added, TakesAny}
 
 -- ---- a First number wasn't counted
 

@@ -1,5 +1,5 @@
 -- A header on its way to the consumers.
-use Rattle.std.specs.Prelude.{ℕ, List, [], ◌∷◌}
+use Rattle.std.specs.Prelude.{List, [], ◌∷◌}
 use Rattle.header_lanes.specs.declared.header.HeaderFacts.{HeaderFacts}
 use Rattle.sample_taps.specs.declared.brief.Brief.{Brief}
 use Rattle.sample_taps.specs.declared.brief.Sampled.{Sampled}

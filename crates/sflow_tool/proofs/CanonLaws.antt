@@ -1,5 +1,5 @@
 -- What holds of entries that were written anew.
-use Rattle.std.proofs.Common.{Option, Some, replicate, ◌^◌, ◌<◌, arith, ◌≡◌, ◌∙◌, ◌≤◌, ◌+◌, ℕ, true, cond, List, [], ◌∷◌, ◌++◌, length, map, flat_map, All, fold, Result, Ok, Err, refl, sym, ap, ap₂, subst}
+use Rattle.std.proofs.Common.{Option, Some, replicate, ◌^◌, arith, ◌≡◌, ◌∙◌, ◌≤◌, ◌+◌, ℕ, true, cond, List, [], ◌∷◌, ◌++◌, length, map, All, fold, Result, Ok, Err, refl, sym, ap, ap₂, subst}
 use Rattle.std.proofs.lemmas.List.Elements.{All-cons, All-head, All-nil, All-tail}
 use Rattle.std.proofs.lemmas.List.{length-map}
 use Rattle.std.proofs.Math.Seq.{take-append_seam}

@@ -1,5 +1,5 @@
 -- What `check` says of an entry, in the words of the grammar.
-use Rattle.std.proofs.Common.{◌≡◌, ℕ, true, List, [], Result, Ok, Err, refl, ap}
+use Rattle.std.proofs.Common.{◌≡◌, ℕ, true, [], Result, Ok, Err, refl, ap}
 use Rattle.wire_spec.specs.declared.fault.Fault.{Fault}
 use Rattle.wire_spec.specs.declared.pad.Pad.{Pad}
 use Rattle.wire_spec.specs.Bytes.{AreBytes}

@@ -1,7 +1,7 @@
 -- Runs of `pcap`.
-use Rattle.std.proofs.Common.{◌≡◌, ℕ, true, false, List, [], ◌++◌, Option, Result, Ok, Err, refl, sym, ap, subst, ◌∙◌}
+use Rattle.std.proofs.Common.{◌≡◌, ℕ, true, false, List, [], ◌++◌, Option, Ok, Err, refl, ap, ◌∙◌}
 use Rattle.std.specs.Io.KnownBytes.{IsAtEnd}
-use Rattle.byte_ends.specs.Seen.{Seen, TakesPart}
+use Rattle.byte_ends.specs.Seen.{Seen}
 use Rattle.capture_spec.specs.PcapFiles.{Packet}
 use Rattle.capture_spec.specs.declared.pcap_output.PcapOutput.{PcapOutput}
 use Rattle.capture_spec.specs.declared.pcap_output.PcapOutput.TheVariants.{Capture, Counts}

@@ -1,7 +1,6 @@
 -- Runs of `replay`, and what they feed the consumers.
-use Rattle.std.proofs.Common.{◌≡◌, ℕ, Bool, true, false, inl, inr, List, [], ◌++◌, Option, Some, None, Ok, Err, Result, refl, sym, ap, subst, ◌∙◌}
+use Rattle.std.proofs.Common.{◌≡◌, ℕ, Bool, false, List, [], ◌++◌, Option, Ok, Err, refl, sym, ap, subst, ◌∙◌}
 use Rattle.std.specs.Io.KnownBytes.{IsAtEnd}
-use Rattle.wire_spec.specs.Bytes.{AreBytes}
 use Rattle.byte_ends.specs.Seen.{Seen}
 use Rattle.byte_ends.proofs.Prefixes.{takes-nil}
 use Rattle.capture_spec.specs.declared.capture_version.CaptureVersion.{CaptureVersion}
@@ -21,14 +20,14 @@ use Rattle.sflow_io.specs.declared.capture.ReadRefusal.TheVariants as refusals
 use Rattle.command_runs.specs.declared.status.Status.{Status}
 use Rattle.command_runs.specs.declared.status.Status.TheVariants.{Done, WriteFault}
 use Rattle.command_runs.specs.Endings.{Flushed, refusal_status, whole, part}
-use Rattle.command_runs.specs.Grammars.{Capture, captures}
+use Rattle.command_runs.specs.Grammars.{captures}
 use Rattle.command_runs.specs.Outside.{Outside}
 use Rattle.command_runs.specs.Readings.{ReadsTo}
 use Rattle.command_runs.specs.Runs.{Runs}
-use Rattle.command_runs.specs.Visits.{HasRead, HasVisited}
+use Rattle.command_runs.specs.Visits.{HasVisited}
 use Rattle.command_runs.proofs.ReadRuns as runs
 use Rattle.command_runs.proofs.Visited.{reads_so}
-use Rattle.sflow_tool.specs.Replays.{Collects, HasTakeCause, TookAll, TookSome, briefs_in, items_in, replay_act, report_of}
+use Rattle.sflow_tool.specs.Replays.{Collects, HasTakeCause, TookAll, TookSome, briefs_in, items_in, replay_act}
 use Rattle.sflow_tool.proofs.Items.{report_so, stands_so}
 
 refusal_cause : (source source' : Seen) (r : ReadRefusal) → HasTakeCause source source' (Err r)

@@ -1,5 +1,5 @@
 -- The lines of more and more streams and sources, which are put one after the other.
-use Rattle.std.proofs.Common.{◌≡◌, ℕ, ◌+◌, ◌<◌, List, [], ◌∷◌, ◌++◌, length, take, drop, inl, inr, Option, Some, None, Result, IsErrAnd, sym, ap, subst, ◌∙◌, append_assoc, arith, length-take-le, take-append-drop}
+use Rattle.std.proofs.Common.{◌≡◌, ℕ, ◌+◌, ◌<◌, List, [], ◌∷◌, ◌++◌, length, take, drop, inl, inr, Some, None, Result, IsErrAnd, sym, ap, subst, ◌∙◌, append_assoc, arith, length-take-le, take-append-drop}
 use Rattle.std.specs.Prelude.{slice_get}
 use Rattle.std.proofs.lemmas.List.{take_more}
 use Rattle.std.proofs.lemmas.Option.{get_or_from_slice_get, slice_get_cases, slice_get_within}

@@ -1,5 +1,5 @@
 -- The visitor of each command does what the command's row says.
-use Rattle.std.proofs.Common.{◌≡◌, ℕ, ◌+◌, Bool, false, true, cond, nat_lt, List, [], ◌∷◌, ◌++◌, refl, sym, ap, subst, ◌∙◌, append-nil, fold, arith}
+use Rattle.std.proofs.Common.{◌≡◌, ℕ, ◌+◌, false, cond, nat_lt, List, [], ◌∷◌, refl, ap, ◌∙◌, append-nil, fold, arith}
 use Rattle.std.specs.List.{count_by}
 use Rattle.wire_spec.specs.declared.pad.Pad.{Pad}
 use Rattle.capture_spec.specs.Items.{Received}

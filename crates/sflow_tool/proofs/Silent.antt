@@ -1,14 +1,11 @@
 -- A walk over entries that puts nothing.
-use Rattle.std.proofs.Common.{◌≡◌, ℕ, Bool, false, true, List, [], Option, Result, Ok, Err, refl, sym, ap, subst}
+use Rattle.std.proofs.Common.{◌≡◌, ℕ, false, true, List, [], Ok, refl, sym, ap, subst}
 use Rattle.wire_spec.specs.Bytes.{AreBytes}
 use Rattle.byte_ends.specs.Seen.{Seen}
-use Rattle.capture_spec.specs.declared.capture_version.CaptureVersion.{CaptureVersion}
 use Rattle.capture_spec.specs.Items.{Received}
 use Rattle.sflow_io.specs.declared.capture.Next.TheVariants as next
-use Rattle.sflow_io.specs.declared.capture.Stage.{Stage}
 use Rattle.sflow_io.specs.CaptureAnswers.{HasEnded, IsStageAfter, ReaderState, entries_given, number_in, version_in}
 use Rattle.sflow_io.specs.CaptureSteps.{HasGiven}
-use Rattle.std.specs.Prelude.{Some}
 use Rattle.command_runs.specs.Tasks.{Task}
 use Rattle.command_runs.specs.Walks.{IsFresh, Moved, version_said}
 use Rattle.command_runs.proofs.Walked.{SoFar, all_given}

@@ -29,10 +29,7 @@ use sample_taps::{Tap, Taps};
 use sflow_io::{CaptureReader, Next, ReadRefusal, Sink, Source};
 use std::alloc::Global;
 use text_lines::Page;
-use wire_spec::Pad;
-
-// A reader gives at most so many entries.
-const MOST: u64 = 1 << 48;
+use wire_spec::{MAX_ENTRIES, Pad};
 
 // Reads a capture, feeds the consumers and writes the report. All memory is taken before the first byte is read.
 pub(crate) fn replay<S: Source, K: Sink>(
@@ -113,7 +110,7 @@ fn take_entries<S: Source>(
     ensures cause { HasTakeCause (S.seen source.old) (S.seen source.new) result }
     ensures ended { taps.new.ended + vec_len taps.new.held ≡ taps.old.ended + vec_len taps.old.held }
 {
-    for count in 0..MOST + 1 {
+    for count in 0..MAX_ENTRIES + 1 {
         match reader.next(source, room) {
             Ok(Next::Entry { at, from: _, len }) => {
                 let bytes = &room[..len];

@@ -1,20 +1,16 @@
 -- The fields of the values that were read, at their places.
-use Rattle.std.proofs.Common.{◌≡◌, ℕ, suc, ◌+◌, ◌*◌, ◌/◌, ◌%◌, ◌^◌, List, [], ◌∷◌, ◌++◌, codes, length, refl, sym, ap, subst, ◌∙◌, arith}
-use Rattle.wire_spec.specs.Shapes.{Table, Tree, Trees, count_of}
-use Rattle.wire_spec.specs.Heads.{AgentAddress, unknown, ipv4, ipv6, Head, address_tree}
+use Rattle.std.proofs.Common.{◌≡◌, ℕ, List, ◌++◌, codes, length, refl, sym, ap, subst, ◌∙◌}
+use Rattle.wire_spec.specs.Shapes.{Table, Tree, count_of}
+use Rattle.wire_spec.specs.Heads.{Head}
 use Rattle.wire_spec.specs.Members.{with_last_tree}
-use Rattle.data_format.specs.declared.format.Format.{Format}
 use Rattle.data_format.specs.declared.format.Frame.{Frame}
 use Rattle.data_format.specs.declared.heads.Form.{Form}
 use Rattle.data_format.specs.declared.heads.Form.TheVariants.{Compact, Expanded}
 use Rattle.data_format.specs.declared.heads.FlowHead.{FlowHead}
 use Rattle.data_format.specs.declared.heads.CountersHead.{CountersHead}
-use Rattle.data_format.specs.declared.port.Port.{Port}
-use Rattle.data_format.specs.declared.source.SourceId.{SourceId}
-use Rattle.data_format.specs.Compact.{source_word, source_of, IsCompactSource, port_word, port_of, IsCompactPort}
 use Rattle.data_format.specs.Samples.{SampleView, flow_trees, IsFlowHead, flow_tree, counters_trees, IsCountersHead, counters_tree}
 use Rattle.data_format.specs.Trees.{frame_tree, trees_of, frame_trees}
-use Rattle.data_format.specs.Views.{IsFormat, FrameView, format_word}
+use Rattle.data_format.specs.Views.{FrameView}
 use Rattle.data_format.proofs.Values.{format_of-word, address_in-tree, flow_head_in-trees, counters_head_in-trees, flow_records_in-trees, counter_records_in-trees, count_of-trees}
 use Rattle.datagram_core.specs.Heads.{DatagramView}
 use Rattle.datagram_core.specs.Records.{RecordsView, IsRecordOf, records_of, record_tree, table_of}
@@ -25,7 +21,7 @@ use Rattle.datagram_core.specs.declared.records.Record.{Record}
 use Rattle.datagram_core.specs.declared.records.RecordKind.{RecordKind}
 use Rattle.datagram_core.specs.declared.sample.Sample.{Sample}
 use Rattle.datagram_core.specs.declared.sample.Sample.TheVariants as samples
-use Rattle.data_format.specs.Values.{format_of, members_of, address_in, flow_head_in, counters_head_in, flow_records_in, counter_records_in}
+use Rattle.data_format.specs.Values.{format_of, members_of, flow_head_in, counters_head_in, flow_records_in}
 use Rattle.show_lines.specs.Lines.{datagram_line, flow_front, counters_front, frame_front}
 use Rattle.show_lines.specs.Joined.{texts_of}
 use Rattle.show_lines.specs.Shown.{record_text, flow_text, counters_text, sample_front, sample_records, sample_text, datagram_text}

@@ -12,7 +12,7 @@ use Rattle.data_format.specs.declared.heads.Form.TheVariants.{Compact, Expanded}
 use Rattle.rec_counters.specs.Contents.{interface_content}
 use Rattle.agent_spec.specs.Sources as spec
 use Rattle.agent_spec.specs.Samples as samples
-use Rattle.agent_spec.specs.Samples.{Sample, Setup}
+use Rattle.agent_spec.specs.Samples.{Sample}
 use Rattle.agent_spec.specs.Spelled.{sample_tree}
 use Rattle.agent_spec.specs.Events.{Event, Poll, turn_after}
 use Rattle.agent_spec.specs.Polls.{is_due_after}

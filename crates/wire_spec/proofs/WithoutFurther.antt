@@ -1,5 +1,5 @@
 -- Datagrams that have none of the further records, and one that has.
-use Rattle.std.proofs.Common.{◌≡◌, ◌≢◌, ℕ, ◌<◌, List, refl, inl, inr, arith}
+use Rattle.std.proofs.Common.{◌≡◌, ◌≢◌, ℕ, ◌<◌, refl, inl, inr, arith}
 use Rattle.wire_spec.specs.declared.pad.Pad.TheVariants.{Any}
 use Rattle.wire_spec.specs.Shapes.{Table}
 use Rattle.wire_spec.specs.Examples.{gateway_datagram}

@@ -15,7 +15,7 @@ invariant_of-result c =
     let read = c.in_ok-head in
     let Few : Reader → Type 0 = λ r. AreBytes r.bytes × (length r.bytes ≤ 65535) in
     let few : Few cursor = subst Few (sym c.new-cursor.ensures)
-    (λ i. omega (arith, c.type_inv.bytes i), omega (arith, c.if-bytes-gt-MOST.false)) in
+    (λ i. omega (arith, c.type_inv.bytes i), omega (arith, c.if-bytes-gt-MAX_DATAGRAM.false)) in
     let parts : Parts × Remaining =
     ((head_trees (head_of read.head), read.samples), remaining c.read_parts.new.cursor) in (
       few_samples c.args.pad samples_read (remaining cursor) parts few.0 few.1 read.ensures.0,

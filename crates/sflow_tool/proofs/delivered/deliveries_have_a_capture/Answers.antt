@@ -1,7 +1,7 @@
-use Rattle.std.proofs.Common.{ℕ, ◌<◌, ◌≤◌, ◌^◌, List, length, map, arith, refl}
+use Rattle.std.proofs.Common.{◌<◌, ◌≤◌, ◌^◌, length, map, arith, refl}
 use Rattle.std.specs.List.{AllByRecursion}
 use Rattle.std.proofs.lemmas.List.{length-map}
-use Rattle.wire_spec.specs.Captures.{Entry, IsEntry}
+use Rattle.wire_spec.specs.Captures.{IsEntry}
 use Rattle.account_spec.specs.Deliveries.{Delivery, entry_of}
 use Rattle.account_laws.proofs.Lists.{all-both, all-map}
 use Rattle.sflow_tool.proofs.HeadlineRows.{capture_in_order}

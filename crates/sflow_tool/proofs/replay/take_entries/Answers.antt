@@ -1,4 +1,4 @@
-use Rattle.std.proofs.Common.{◌+◌, [], refl, ap, ◌∙◌, arith}
+use Rattle.std.proofs.Common.{◌+◌, refl, ap, ◌∙◌, arith}
 use Rattle.text_lines.proofs.PageLaws.{puts_none}
 use Rattle.command_runs.proofs.Walked.{ended_by_refusal, nothing_yet, one_more}
 use Rattle.sflow_tool.proofs.Items.{none_taken, one_taken}

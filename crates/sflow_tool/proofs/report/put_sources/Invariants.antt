@@ -1,5 +1,5 @@
 -- The lines so far were put, and no call has failed.
-use Rattle.std.proofs.Common.{◌≡◌, List, take}
+use Rattle.std.proofs.Common.{List, take}
 use Rattle.books_spec.specs.Items.{Item}
 use Rattle.books_spec.specs.declared.limits.Limits.{Limits}
 use Rattle.books_spec.specs.WholeBooks.{whole_books}
