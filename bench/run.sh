@@ -1,6 +1,6 @@
 #!/usr/bin/env bash
 # Times the commands over made captures, beside `wc`, a plain copy and, where there is a C compiler, a plain walk in C:
-# walk.c, and for `replay` gaps.c. The figures are those of one run on one machine.
+# walk.c, and for `replay` gaps.c and kinds.c. The figures are those of one run on one machine.
 #   bench/run.sh [FOLDER]
 # FOLDER keeps the captures for further runs; by default it is sflow-bench in the system's temporary folder.
 # SFLOW_BENCH_BYTES is the size of the large captures (256,000,000: 200,000 datagrams of about six flow samples).
@@ -23,6 +23,7 @@ walks=
 if command -v cc > /dev/null; then
   cc -O2 -o "$folder/walk" bench/walk.c
   cc -O2 -o "$folder/gaps" bench/gaps.c
+  cc -O2 -o "$folder/kinds" bench/kinds.c
   walks=$folder
 fi
 
@@ -44,6 +45,7 @@ measure check walk
 made flows "$size" 8 none
 for command in check show canon; do measure "$command" walk; done
 measure replay gaps
+measure replay kinds
 for padding in zero stray; do
   made flows "$size" 8 "$padding"
   measure canon walk

@@ -5,5 +5,5 @@ pub mod OfKinds
 pub mod KindsOf
 pub mod Flags
 pub mod Numbers
-pub mod Gathered
+pub mod Held
 pub mod Outlines

@@ -8,7 +8,7 @@ use Rattle.header_lanes.specs.Numbers.{number_at, bare}
 use Rattle.header_lanes.specs.Internet.{ipv4_at, ipv6_at}
 use Rattle.header_lanes.specs.Ethernet.{is_tag, vlan_of, type_behind, by_ethertype, by_type, from_type, ethernet}
 use Rattle.header_lanes.specs.Facts.{facts_in}
-use Rattle.header_lanes.proofs.Gathered.{same_byte}
+use Rattle.header_lanes.proofs.Held.{same_byte, is_within, both_are}
 use Rattle.header_lanes.specs.Slots.{head, owed, flag, is_frame, type_at, base, holds_type, type_of, has_type, has_vlan, slot_vlan, slot_type, type_path, path, kind_of_path, framed}
 
 -- what follows, of a frame with these facts
@@ -204,13 +204,21 @@ pub flag_is_clear : (b : Bool) → (flag b ≡ 255 → ⊥) → b ≡ false
 flag_is_clear true clear = absurd (clear refl)
 flag_is_clear false clear = refl
 
-same_number : (s : Slot) (i : ℕ) → number_at s.bytes i ≡ number_at (head s) i
-same_number s i = ap₂ (λ x y. x * 256 + y) (same_byte s i) (same_byte s (i + 1))
+same_number : (s : Slot) (i : ℕ) → i + 2 ≤ length (head s) → number_at s.bytes i ≡ number_at (head s) i
+same_number s i le = ap₂ (λ x y. x * 256 + y) (same_byte s i (omega (arith, le))) (same_byte s (i + 1) (omega (arith, le)))
+
+vlan_is_within : (s : Slot) → has_vlan s ≡ true → 14 + 2 ≤ length (head s)
+vlan_is_within s is = is_within 16 (length (head s)) (both_are (is_frame s && is_tag (number_at (head s) 12)) _ is).1
+
+type_is_within : (s : Slot) → has_type s ≡ true → type_at s + 2 ≤ length (head s)
+type_is_within s is =
+    is_within (type_at s + 2) (length (head s)) (both_are (is_frame s) _ (both_are (is_frame s && holds_type s) _ is).0).1
 
 pub vlan_told : (s : Slot) → flag (has_vlan s) ≡ 255 → Some (number_at s.bytes 14 % 4096) ≡ slot_vlan s
 vlan_told s is =
-    ap (λ n. Some (n % 4096)) (same_number s 14)
-    ∙ sym (ap (λ b. cond b (Some (number_at (head s) 14 % 4096)) None) (flag_is_set (has_vlan s) is))
+    let set = flag_is_set (has_vlan s) is in
+    ap (λ n. Some (n % 4096)) (same_number s 14 (vlan_is_within s set))
+    ∙ sym (ap (λ b. cond b (Some (number_at (head s) 14 % 4096)) None) set)
 
 pub no_vlan : (s : Slot) → (flag (has_vlan s) ≡ 255 → ⊥) → None ≡ slot_vlan s
 no_vlan s clear = sym (ap (λ b. cond b (Some (number_at (head s) 14 % 4096)) None) (flag_is_clear (has_vlan s) clear))
@@ -218,7 +226,8 @@ no_vlan s clear = sym (ap (λ b. cond b (Some (number_at (head s) 14 % 4096)) No
 pub type_told : (s : Slot) (i : ℕ) → i ≡ base s - 2 → flag (has_type s) ≡ 255 → Some (number_at s.bytes i) ≡ slot_type s
 type_told s i at is =
     let set = flag_is_set (has_type s) is in
-    ap Some (same_number s i ∙ ap (number_at (head s)) (at ∙ type_is_there s set))
+    ap (λ n. Some (number_at s.bytes n)) (at ∙ type_is_there s set)
+    ∙ ap Some (same_number s (type_at s) (type_is_within s set))
     ∙ sym (ap (λ b. cond b (Some (type_of s)) None) set)
 
 pub no_type : (s : Slot) → (flag (has_type s) ≡ 255 → ⊥) → None ≡ slot_type s

@@ -1,8 +1,7 @@
 -- The headers held, as they are put into the places of a batch.
 use Rattle.std.proofs.Common.{◌≡◌, ℕ, suc, ◌+◌, ◌-◌, ◌<◌, ◌≤◌, List, [], ◌∷◌, ◌++◌, sym, ap, ap₂, ◌∙◌, arith, map, length, take, set, replicate, get_or}
 use Rattle.std.proofs.lemmas.List.{map-set, length-map, take_more, length-take-le, append_assoc}
-use Rattle.std.proofs.Math.Seq.{take-suc-set, set-append_seam, take-append_seam}
-use Rattle.header_lanes.specs.Facts.{facts, facts_in}
+use Rattle.std.proofs.Math.Seq.{take-suc-set, set-append_seam}
 
 -- one more is put behind those held
 pub one_more : {A B : Type 0} (f : A → B) (xs : List A) (held : ℕ) (a : A) → held < length xs
@@ -24,12 +23,6 @@ one_written ys k most blank y d inside room is =
     ∙ ap (λ z. take k ys ++ z ∷ rest) (sym is)
     ∙ sym (append_assoc (take k ys) (get_or ys k d ∷ []) rest)
     ∙ ap (λ l. l ++ rest) (sym (take_more ys k d inside))
-
--- a header is what stands in front of the bytes that it was copied over
-pub stored : (protocol : ℕ) (new front header rest : List ℕ) → new ≡ front → front ≡ take 128 header
-    → facts_in protocol (take (length front) (new ++ rest)) ≡ facts protocol header
-stored protocol new front header rest same is =
-    ap (λ l. facts_in protocol (take (length front) (l ++ rest))) same ∙ ap (facts_in protocol) (take-append_seam front rest ∙ is)
 
 -- as many are held as are counted
 pub all_held : {A B : Type 0} (f : A → B) (xs : List A) (held : ℕ) → held ≤ length xs → length (take held (map f xs)) ≡ held

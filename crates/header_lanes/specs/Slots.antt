@@ -1,9 +1,10 @@
 -- What the places of a batch hold, and what is asked of each: rules of frames as tests of one slot.
-use Rattle.std.specs.Prelude.{ℕ, zero, suc, ◌+◌, ◌%◌, Bool, not, ◌&&◌, List, Option, Some, None, map, length, take, nat_eq, nat_le, if◌then◌else◌}
+use Rattle.std.specs.Prelude.{◌≡◌, ℕ, zero, suc, ◌+◌, ◌%◌, Bool, not, ◌&&◌, List, Option, Some, None, map, length, min, take, slice_index, nat_eq, nat_le, if◌then◌else◌}
 use Rattle.header_lanes.specs.declared.header.Kind.{Kind}
 use Rattle.header_lanes.specs.declared.header.Kind.TheVariants.{Unscanned, Short, Length, Undefined, Arp, Ipv4, Ipv6, OtherType}
 use Rattle.header_lanes.specs.declared.header.HeaderFacts.{HeaderFacts}
 use Rattle.header_lanes.specs.declared.slot.Slot.{Slot}
+use Rattle.header_lanes.specs.declared.columns.Columns.{Columns}
 use Rattle.header_lanes.specs.Numbers.{number_at, bare}
 use Rattle.header_lanes.specs.Ethernet.{is_tag}
 use Rattle.header_lanes.specs.Facts.{facts_in}
@@ -15,6 +16,17 @@ head s = take s.len s.bytes
 -- its facts
 abbrev pub owed : Slot → HeaderFacts
 owed s = facts_in s.protocol (head s)
+
+-- the columns of these slots
+pub record AreColumns (c : Columns) (slots : List Slot) : Type 0 where
+  pub lengths : c.lengths ≡ map (λ s. length (head s)) slots
+  pub protocols : c.protocols ≡ map (λ s. min s.protocol 255) slots
+  pub first_high : c.first_high ≡ map (λ s. slice_index (head s) 12) slots
+  pub first_low : c.first_low ≡ map (λ s. slice_index (head s) 13) slots
+  pub second_high : c.second_high ≡ map (λ s. slice_index (head s) 16) slots
+  pub second_low : c.second_low ≡ map (λ s. slice_index (head s) 17) slots
+  pub third_high : c.third_high ≡ map (λ s. slice_index (head s) 20) slots
+  pub third_low : c.third_low ≡ map (λ s. slice_index (head s) 21) slots
 
 -- a flag of a lane
 abbrev pub flag : Bool → ℕ

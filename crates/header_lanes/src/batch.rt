@@ -4,7 +4,7 @@ ghost use Rattle.header_lanes.specs.declared.header.Kind.TheVariants.{Unscanned}
 ghost use Rattle.header_lanes.specs.Numbers.{bare};
 ghost use Rattle.header_lanes.specs.Facts.{facts};
 
-use crate::columns::outline_of;
+use crate::columns::{Columns, outline_of};
 use crate::header::HeaderFacts;
 use crate::slot::Slot;
 use std::marker::Model;
@@ -18,18 +18,19 @@ pub struct BatchFull;
 pub struct Batch {
     held: usize,
     slots: [Slot; 16],
+    columns: Columns,
 }
 
 impl Model for Batch {
     ghost use Rattle.std.specs.Prelude.{◌≡◌, ◌≤◌, List, length, map, take};
     ghost use Rattle.header_lanes.specs.declared.header.HeaderFacts.{HeaderFacts};
-    ghost use Rattle.header_lanes.specs.Slots.{owed};
+    ghost use Rattle.header_lanes.specs.Slots.{AreColumns, owed};
 
     ghost Value = { List HeaderFacts };
 
     ghost view = { λ b. take b.held (map owed b.slots) };
 
-    ghost invariant = { λ b. (b.held ≤ 16) × (length b.slots ≡ 16) };
+    ghost invariant = { λ b. (b.held ≤ 16) × (length b.slots ≡ 16) × AreColumns b.columns b.slots };
 }
 
 impl Batch {
@@ -39,7 +40,12 @@ impl Batch {
     {
         Batch {
             held: 0,
-            slots: [Slot::of(0, &[]); 16],
+            slots: [Slot {
+                protocol: 0,
+                len: 0,
+                bytes: [0; 96],
+            }; 16],
+            columns: Columns::new(),
         }
     }
 
@@ -58,7 +64,7 @@ impl Batch {
         self.held = 0;
     }
 
-    /// Takes the first 128 bytes of a header. `BatchFull` exactly where 16 are held; then the batch stays as it was.
+    /// Takes a header, of which at most the first 128 bytes count. `BatchFull` exactly where 16 are held; then the batch stays as it was.
     pub fn push(&mut self, protocol: u32, header: &[u8]) -> Result<(), BatchFull>
         ensures taken { IfOk result (λ _. self.new ≡ self.old ++ facts protocol header.now ∷ []) }
         ensures kept { IfErr result (λ _. self.new ≡ self.old) }
@@ -67,7 +73,8 @@ impl Batch {
         if self.held == 16 {
             return Err(BatchFull);
         }
-        self.slots[self.held] = Slot::of(protocol, header);
+        self.slots[self.held].fill(protocol, header);
+        self.columns.put(self.held, protocol, header);
         self.held += 1;
         Ok(())
     }
@@ -76,10 +83,11 @@ impl Batch {
     pub fn scan(&self, facts: &mut [HeaderFacts; 16])
         ensures { facts.new ≡ self.now ++ replicate (16 - length self.now) (bare Unscanned) }
     {
-        let told = outline_of(&self.slots);
+        let told = outline_of(&self.slots, &self.columns);
         *facts = [HeaderFacts::none(); 16];
         for k in 0..self.held {
-            facts[k] = self.slots[k].facts(
+            self.slots[k].tell(
+                &mut facts[k],
                 told.paths[k],
                 told.bases[k],
                 told.vlans[k],

@@ -1,43 +1,23 @@
 // Sixteen slots side by side: what is asked of each, as vectors with a lane for each slot.
-ghost use Rattle.std.specs.Prelude.{◌≡◌, ◌+◌, ◌<◌, map, length, min, slice_index, nat_le};
-ghost use Rattle.header_lanes.specs.Slots.{head, flags, is_frame, has_tag, has_two_tags, type_at, base, holds_type, type_of, type_path, bare_path, has_vlan, has_type, path};
+ghost use Rattle.std.specs.Prelude.{◌≡◌, ◌+◌, map, length, min, slice_index, nat_le};
+ghost use Rattle.header_lanes.specs.Slots.{AreColumns, head, flags, is_frame, has_tag, has_two_tags, type_at, base, holds_type, type_of, type_path, bare_path, has_vlan, has_type, path};
 
 use crate::lanes::{at_least, equal, number_at_most, number_equal, pick, tag_types};
 use crate::slot::Slot;
 use std::simd::prelude::*;
 
-// The bytes at this place.
-fn column(slots: &[Slot; 16], place: usize) -> u8x16
-    requires { place < 128 }
-    ensures { result ≡ map (λ s. slice_index (head s) place) slots.now }
-{
-    let mut lanes = [0; 16];
-    for k in 0..16 {
-        lanes[k] = slots[k].bytes[place];
-    }
-    u8x16::from_array(lanes)
-}
-
-// The lengths.
-fn lengths(slots: &[Slot; 16]) -> u8x16
-    ensures { result ≡ map (λ s. length (head s)) slots.now }
-{
-    let mut lanes = [0; 16];
-    for k in 0..16 {
-        lanes[k] = slots[k].len.min(128) as u8;
-    }
-    u8x16::from_array(lanes)
-}
-
-// The header protocols, as far as a byte goes.
-fn protocols(slots: &[Slot; 16]) -> u8x16
-    ensures { result ≡ map (λ s. min s.protocol 255) slots.now }
-{
-    let mut lanes = [0; 16];
-    for k in 0..16 {
-        lanes[k] = slots[k].protocol.min(255) as u8;
-    }
-    u8x16::from_array(lanes)
+/// Of sixteen slots the lengths, the header protocols as far as a byte goes, and the bytes of the type: where it stands
+/// without a tag, behind one, and behind two.
+#[derive(Debug, Clone, Copy)]
+pub struct Columns {
+    pub lengths: [u8; 16],
+    pub protocols: [u8; 16],
+    pub first_high: [u8; 16],
+    pub first_low: [u8; 16],
+    pub second_high: [u8; 16],
+    pub second_low: [u8; 16],
+    pub third_high: [u8; 16],
+    pub third_low: [u8; 16],
 }
 
 // Which are frames.
@@ -49,45 +29,64 @@ fn frames(slots: &[Slot; 16], protocols: u8x16) -> u8x16
 }
 
 // Which tell a VLAN.
-fn vlans(slots: &[Slot; 16], frames: u8x16, lengths: u8x16) -> u8x16
+fn vlans(slots: &[Slot; 16], columns: &Columns, frames: u8x16, lengths: u8x16) -> u8x16
+    requires columns { AreColumns columns.now slots.now }
     requires frames { frames ≡ flags is_frame slots.now }
     requires lengths { lengths ≡ map (λ s. length (head s)) slots.now }
     ensures { result ≡ flags has_vlan slots.now }
 {
-    let tags = tag_types(column(slots, 12), column(slots, 13));
+    let tags = tag_types(
+        u8x16::from_array(columns.first_high),
+        u8x16::from_array(columns.first_low),
+    );
     frames & tags & at_least(lengths, 16)
 }
 
 // Which have a tag.
-fn tagged(slots: &[Slot; 16], frames: u8x16, lengths: u8x16) -> u8x16
+fn tagged(slots: &[Slot; 16], columns: &Columns, frames: u8x16, lengths: u8x16) -> u8x16
+    requires columns { AreColumns columns.now slots.now }
     requires frames { frames ≡ flags is_frame slots.now }
     requires lengths { lengths ≡ map (λ s. length (head s)) slots.now }
     ensures { result ≡ flags has_tag slots.now }
 {
-    let tags = tag_types(column(slots, 12), column(slots, 13));
+    let tags = tag_types(
+        u8x16::from_array(columns.first_high),
+        u8x16::from_array(columns.first_low),
+    );
     frames & tags & at_least(lengths, 14)
 }
 
 // Which have a second tag.
-fn tagged_twice(slots: &[Slot; 16], once: u8x16, lengths: u8x16) -> u8x16
+fn tagged_twice(slots: &[Slot; 16], columns: &Columns, once: u8x16, lengths: u8x16) -> u8x16
+    requires columns { AreColumns columns.now slots.now }
     requires once { once ≡ flags has_tag slots.now }
     requires lengths { lengths ≡ map (λ s. length (head s)) slots.now }
     ensures { result ≡ flags has_two_tags slots.now }
 {
-    let tags = tag_types(column(slots, 16), column(slots, 17));
+    let tags = tag_types(
+        u8x16::from_array(columns.second_high),
+        u8x16::from_array(columns.second_low),
+    );
     once & tags & at_least(lengths, 18)
 }
 
-// The bytes that stand so many behind the begin of the type, which the tags shift.
-fn behind_tags(slots: &[Slot; 16], once: u8x16, twice: u8x16, more: usize) -> u8x16
-    requires more { more < 2 }
+// Of the bytes that stand so many behind the begin of the type, those that the tags choose.
+fn behind_tags(
+    slots: &[Slot; 16],
+    once: u8x16,
+    twice: u8x16,
+    more: usize,
+    none: u8x16,
+    one: u8x16,
+    two: u8x16,
+) -> u8x16
     requires once { once ≡ flags has_tag slots.now }
     requires twice { twice ≡ flags has_two_tags slots.now }
+    requires none { none ≡ map (λ s. slice_index (head s) (12 + more)) slots.now }
+    requires one { one ≡ map (λ s. slice_index (head s) (16 + more)) slots.now }
+    requires two { two ≡ map (λ s. slice_index (head s) (20 + more)) slots.now }
     ensures { result ≡ map (λ s. slice_index (head s) (type_at s + more)) slots.now }
 {
-    let none = column(slots, 12 + more);
-    let one = column(slots, 16 + more);
-    let two = column(slots, 20 + more);
     pick(twice, two, pick(once, one, none))
 }
 
@@ -180,26 +179,43 @@ pub struct Outline {
 }
 
 /// The rules of frames for sixteen slots at a time.
-pub fn outline_of(slots: &[Slot; 16]) -> Outline
+pub fn outline_of(slots: &[Slot; 16], columns: &Columns) -> Outline
+    requires { AreColumns columns.now slots.now }
     ensures paths { result.paths ≡ map path slots.now }
     ensures bases { result.bases ≡ map base slots.now }
     ensures vlans { result.vlans ≡ flags has_vlan slots.now }
     ensures types { result.types ≡ flags has_type slots.now }
 {
-    let lengths = lengths(slots);
-    let protocols = protocols(slots);
+    let lengths = u8x16::from_array(columns.lengths);
+    let protocols = u8x16::from_array(columns.protocols);
     let frames = frames(slots, protocols);
-    let once = tagged(slots, frames, lengths);
-    let twice = tagged_twice(slots, once, lengths);
-    let high = behind_tags(slots, once, twice, 0);
-    let low = behind_tags(slots, once, twice, 1);
+    let once = tagged(slots, columns, frames, lengths);
+    let twice = tagged_twice(slots, columns, once, lengths);
+    let high = behind_tags(
+        slots,
+        once,
+        twice,
+        0,
+        u8x16::from_array(columns.first_high),
+        u8x16::from_array(columns.second_high),
+        u8x16::from_array(columns.third_high),
+    );
+    let low = behind_tags(
+        slots,
+        once,
+        twice,
+        1,
+        u8x16::from_array(columns.first_low),
+        u8x16::from_array(columns.second_low),
+        u8x16::from_array(columns.third_low),
+    );
     let reaching = reaching(slots, once, twice, lengths);
     let typed = type_paths(slots, high, low);
     let bare = bare_paths(slots, protocols);
     Outline {
         paths: paths(slots, frames, reaching, typed, bare).to_array(),
         bases: bases(slots, frames, once, twice).to_array(),
-        vlans: vlans(slots, frames, lengths).to_array(),
+        vlans: vlans(slots, columns, frames, lengths).to_array(),
         types: types(slots, frames, reaching, high, low).to_array(),
     }
 }

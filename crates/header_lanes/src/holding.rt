@@ -1,19 +1,10 @@
 // How a header is held, and what is made of it by what the lanes tell.
-ghost use Rattle.std.specs.Prelude.{◌≡◌, ◌≤◌, length, take};
-ghost use Rattle.header_lanes.specs.Facts.{facts};
-ghost use Rattle.header_lanes.specs.Slots.{owed, flag, has_type, has_vlan, path, base, slot_vlan, slot_type, kind_of_path};
+ghost use Rattle.std.specs.Prelude.{◌≡◌, take};
+ghost use Rattle.header_lanes.specs.Slots.{head, owed, flag, has_type, has_vlan, path, base, slot_vlan, slot_type, kind_of_path};
 
 use crate::header::{HeaderFacts, Kind, only};
 use crate::internet::{number, read_ipv4, read_ipv6};
 use crate::slot::Slot;
-
-// The bytes that are looked at.
-fn front(header: &[u8]) -> &[u8]
-    ensures bytes { result.now ≡ take 128 header.now }
-    ensures few { length result.now ≤ 128 }
-{
-    &header[..128usize.min(header.len())]
-}
 
 // The kind that goes with what follows a type.
 fn kind_by(follows: u8) -> Kind
@@ -32,17 +23,18 @@ fn kind_by(follows: u8) -> Kind
 }
 
 impl Slot {
-    /// Holds the first 128 bytes of a header.
-    pub fn of(protocol: u32, header: &[u8]) -> Slot
-        ensures { owed result ≡ facts protocol header.now }
+    /// Holds a header.
+    pub fn fill(&mut self, protocol: u32, header: &[u8])
+        ensures head { head self.new ≡ take 96 header.now }
+        ensures protocol { self.new.protocol ≡ protocol }
     {
-        let header = front(header);
-        let mut bytes = [0; 128];
-        bytes[..header.len()].copy_from_slice(header);
-        Slot {
-            protocol,
-            len: header.len(),
-            bytes,
+        self.protocol = protocol;
+        if header.len() < 96 {
+            self.len = header.len();
+            self.bytes[..header.len()].copy_from_slice(header);
+        } else {
+            self.len = 96;
+            self.bytes.copy_from_slice(&header[..96]);
         }
     }
 
@@ -72,26 +64,21 @@ impl Slot {
     }
 
     /// The facts, where the lanes tell what follows, where it stands, and which facts a frame has.
-    pub fn facts(&self, follows: u8, start: u8, tagged: u8, typed: u8) -> HeaderFacts
+    pub fn tell(&self, facts: &mut HeaderFacts, follows: u8, start: u8, tagged: u8, typed: u8)
         requires follows { follows ≡ path self.now }
         requires start { start ≡ base self.now }
         requires tagged { tagged ≡ flag (has_vlan self.now) }
         requires typed { typed ≡ flag (has_type self.now) }
-        ensures { result ≡ owed self.now }
+        ensures { facts.new ≡ owed self.now }
     {
-        let frame = HeaderFacts {
-            vlan: self.vlan(tagged),
-            ethertype: self.ethertype(start, typed),
-            ..only(Kind::Short)
-        };
-        let header = &self.bytes[..self.len];
+        *facts = only(Kind::Short);
+        facts.vlan = self.vlan(tagged);
+        facts.ethertype = self.ethertype(start, typed);
+        let header = &self.bytes[..self.len.min(self.bytes.len())];
         match follows {
-            5 => read_ipv4(frame, usize::from(start), header),
-            6 => read_ipv6(frame, usize::from(start), header),
-            _ => HeaderFacts {
-                kind: kind_by(follows),
-                ..frame
-            },
+            5 => read_ipv4(facts, usize::from(start), header),
+            6 => read_ipv6(facts, usize::from(start), header),
+            _ => facts.kind = kind_by(follows),
         }
     }
 }

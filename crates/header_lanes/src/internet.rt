@@ -34,11 +34,10 @@ fn ipv6_address(header: &[u8], at: usize) -> [u8; 16]
 
 /// The ports and flags of the transport header at `at`.
 #[tactic(auto, unfolding(crate::specs::Internet::with_transport))]
-fn read_transport(facts: HeaderFacts, proto: u8, at: usize, header: &[u8]) -> HeaderFacts
+fn read_transport(facts: &mut HeaderFacts, proto: u8, at: usize, header: &[u8])
     requires { at ≤ 82 }
-    ensures { result ≡ with_transport facts proto at header.now }
+    ensures { facts.new ≡ with_transport facts.old proto at header.now }
 {
-    let mut facts = facts;
     let has_ports = (proto == 6 || proto == 17) && at + 4 <= header.len();
     facts.src_port = if has_ports {
         Some(number(header, at))
@@ -55,14 +54,13 @@ fn read_transport(facts: HeaderFacts, proto: u8, at: usize, header: &[u8]) -> He
     } else {
         None
     };
-    facts
 }
 
 #[tactic(auto, unfolding(crate::specs::Internet::behind_ipv4))]
-fn read_behind_ipv4(facts: HeaderFacts, base: usize, header: &[u8]) -> HeaderFacts
+fn read_behind_ipv4(facts: &mut HeaderFacts, base: usize, header: &[u8])
     requires base { base ≤ 22 }
     requires room { base + 20 ≤ length header.now }
-    ensures { result ≡ behind_ipv4 facts base header.now }
+    ensures { facts.new ≡ behind_ipv4 facts.old base header.now }
 {
     if number(header, base + 6) % 8192 == 0 {
         read_transport(
@@ -70,66 +68,50 @@ fn read_behind_ipv4(facts: HeaderFacts, base: usize, header: &[u8]) -> HeaderFac
             header[base + 9],
             base + 4 * usize::from(header[base] % 16),
             header,
-        )
-    } else {
-        facts
+        );
     }
 }
 
 /// The IPv4 header at `base`, and the transport header behind it.
 #[tactic(auto, unfolding(crate::specs::Internet::ipv4_at, crate::specs::Internet::with_ipv4))]
-pub fn read_ipv4(facts: HeaderFacts, base: usize, header: &[u8]) -> HeaderFacts
+pub fn read_ipv4(facts: &mut HeaderFacts, base: usize, header: &[u8])
     requires { base ≤ 22 }
-    ensures { result ≡ ipv4_at facts base header.now }
+    ensures { facts.new ≡ ipv4_at facts.old base header.now }
 {
     if header.len() < base + 20 {
-        return HeaderFacts {
-            kind: Kind::Short,
-            ..facts
-        };
+        facts.kind = Kind::Short;
+        return;
     }
     let first = header[base];
     if first / 16 != 4 || first % 16 < 5 {
-        return HeaderFacts {
-            kind: Kind::BadIp,
-            ..facts
-        };
+        facts.kind = Kind::BadIp;
+        return;
     }
-    let known = HeaderFacts {
-        kind: Kind::Ipv4,
-        proto: Some(header[base + 9]),
-        src: Address::V4(ipv4_address(header, base + 12)),
-        dst: Address::V4(ipv4_address(header, base + 16)),
-        ..facts
-    };
-    read_behind_ipv4(known, base, header)
+    facts.kind = Kind::Ipv4;
+    facts.proto = Some(header[base + 9]);
+    facts.src = Address::V4(ipv4_address(header, base + 12));
+    facts.dst = Address::V4(ipv4_address(header, base + 16));
+    read_behind_ipv4(facts, base, header);
 }
 
 /// The IPv6 header at `base`, and the transport header behind it.
 #[tactic(auto, unfolding(crate::specs::Internet::ipv6_at, crate::specs::Internet::with_ipv6))]
-pub fn read_ipv6(facts: HeaderFacts, base: usize, header: &[u8]) -> HeaderFacts
+pub fn read_ipv6(facts: &mut HeaderFacts, base: usize, header: &[u8])
     requires { base ≤ 22 }
-    ensures { result ≡ ipv6_at facts base header.now }
+    ensures { facts.new ≡ ipv6_at facts.old base header.now }
 {
     if header.len() < base + 40 {
-        return HeaderFacts {
-            kind: Kind::Short,
-            ..facts
-        };
+        facts.kind = Kind::Short;
+        return;
     }
     if header[base] / 16 != 6 {
-        return HeaderFacts {
-            kind: Kind::BadIp,
-            ..facts
-        };
+        facts.kind = Kind::BadIp;
+        return;
     }
     let proto = header[base + 6];
-    let known = HeaderFacts {
-        kind: Kind::Ipv6,
-        proto: Some(proto),
-        src: Address::V6(ipv6_address(header, base + 8)),
-        dst: Address::V6(ipv6_address(header, base + 24)),
-        ..facts
-    };
-    read_transport(known, proto, base + 40, header)
+    facts.kind = Kind::Ipv6;
+    facts.proto = Some(proto);
+    facts.src = Address::V6(ipv6_address(header, base + 8));
+    facts.dst = Address::V6(ipv6_address(header, base + 24));
+    read_transport(facts, proto, base + 40, header);
 }

@@ -8,6 +8,7 @@ mod holding;
 mod internet;
 mod lanes;
 mod laws;
+mod placing;
 mod rows;
 mod scanner;
 mod slot;

@@ -7,7 +7,7 @@ use Rattle.header_lanes.proofs.columns.behind_tags.Goals as goal
 pub returns : goal.returns
 returns c =
     let ss = c.args.slots.now in
-    let first = c.pick.ensures ∙ chosen ss has_tag _ _ c.requires.once c.column-one.ensures c.column-none.ensures in
+    let first = c.pick.ensures ∙ chosen ss has_tag _ _ c.requires.once c.requires.one c.requires.none in
     c.pick-2.ensures
-    ∙ chosen ss has_two_tags _ _ c.requires.twice c.column-two.ensures first
+    ∙ chosen ss has_two_tags _ _ c.requires.twice c.requires.two first
     ∙ same_map _ _ ss (λ s. read_behind (slice_index (head s)) (has_tag s) (has_two_tags s) c.args.more)

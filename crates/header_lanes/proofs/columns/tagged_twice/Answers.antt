@@ -10,7 +10,7 @@ pub returns : goal.returns
 returns c =
     let ss = c.args.slots.now in
     let tags = c.tag_types-tags.ensures
-    ∙ zip2_of_maps (λ h l. flag (is_tag (h * 256 + l))) (λ s. slice_index (head s) 16) (λ s. slice_index (head s) 17) ss c.column.ensures c.column-2.ensures in
+    ∙ zip2_of_maps (λ h l. flag (is_tag (h * 256 + l))) (λ s. slice_index (head s) 16) (λ s. slice_index (head s) 17) ss c.requires.columns.second_high c.requires.columns.second_low in
     let long = computed ss (λ x. flag (nat_le 18 x)) (λ s. length (head s)) c.at_least.ensures c.requires.lengths in
     both ss (λ s. has_tag s && is_tag (number_at (head s) 16)) (λ s. nat_le 18 (length (head s)))
     (both ss has_tag (λ s. is_tag (number_at (head s) 16)) c.requires.once tags) long

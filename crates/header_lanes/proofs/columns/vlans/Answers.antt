@@ -10,7 +10,7 @@ pub returns : goal.returns
 returns c =
     let ss = c.args.slots.now in
     let tags = c.tag_types-tags.ensures
-    ∙ zip2_of_maps (λ h l. flag (is_tag (h * 256 + l))) (λ s. slice_index (head s) 12) (λ s. slice_index (head s) 13) ss c.column.ensures c.column-2.ensures in
+    ∙ zip2_of_maps (λ h l. flag (is_tag (h * 256 + l))) (λ s. slice_index (head s) 12) (λ s. slice_index (head s) 13) ss c.requires.columns.first_high c.requires.columns.first_low in
     let long = computed ss (λ x. flag (nat_le 16 x)) (λ s. length (head s)) c.at_least.ensures c.requires.lengths in
     both ss (λ s. is_frame s && is_tag (number_at (head s) 12)) (λ s. nat_le 16 (length (head s)))
     (both ss is_frame (λ s. is_tag (number_at (head s) 12)) c.requires.frames tags) long

@@ -11,8 +11,8 @@ loop-k-preserved c =
     let b = c.self.inside in
     let k = c.loop-k.k in
     let blank = bare Unscanned in
-    ap (λ l. set l k c.facts.result) c.loop-k.invariant
-    ∙ one_written (map owed b.slots) k 16 blank c.facts.result blank
+    ap (λ l. set l k c.tell.new.facts) c.loop-k.invariant
+    ∙ one_written (map owed b.slots) k 16 blank c.tell.new.facts blank
     (omega (arith, c.loop-k-test.true, c.self.invariant.0, c.self.invariant.1, length-map b.slots owed))
     (omega (arith, c.loop-k-test.true, c.self.invariant.0))
-    (get_or-map owed b.slots k _ blank (omega (arith, c.loop-k-test.true, c.self.invariant.0, c.self.invariant.1)) ∙ sym c.facts.ensures)
+    (get_or-map owed b.slots k _ blank (omega (arith, c.loop-k-test.true, c.self.invariant.0, c.self.invariant.1)) ∙ sym c.tell.ensures)
