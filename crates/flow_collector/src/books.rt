@@ -9,7 +9,7 @@ ghost use Rattle.datagram_core.specs.SampleHeads.{AreCountersIn};
 ghost use Rattle.datagram_core.specs.Tables.{samples_read};
 ghost use Rattle.books_spec.specs.declared.limits.Limits.{Limits};
 ghost use Rattle.books_spec.specs.Items.{Datagram as Given, Other, Item, Got, Malformed as Faulty, stream_of};
-ghost use Rattle.books_spec.specs.Limits.{refused_limit};
+ghost use Rattle.books_spec.specs.Limits.{AreLawful, refused_limit};
 ghost use Rattle.books_spec.specs.Books.{books, fault_after, taken, taken_now, totals, listed_streams, listed_sources, stream_number, most_entries};
 ghost use Rattle.books_spec.specs.WholeBooks.{whole_books};
 ghost use Rattle.stream_books.specs.Streams.{IsAt};
@@ -34,7 +34,7 @@ use data_format::{CountersHead, Fault, FlowHead};
 use datagram_core::Samples;
 use if_ledger::IfTable;
 use rec_counters::IfCounters;
-use std::alloc::Global;
+use std::alloc::{AllocError, Global};
 use std::hash::RandomState;
 use std::marker::Model;
 use stream_books::{SamplePlace, Taken};
@@ -85,24 +85,21 @@ impl Books {
         if let Some(number) = limits.refused() {
             return Err(OpenRefusal::BadLimit { number });
         }
-        Books::with_room(alloc, limits, seeds)
+        match Books::open_within(alloc, limits, seeds) {
+            Ok(books) => Ok(books),
+            Err(_) => Err(OpenRefusal::Memory),
+        }
     }
 
-    // Opens a collector whose limits are each within their range.
-    fn with_room(alloc: Global, limits: Limits, seeds: Seeds) -> Result<Books, OpenRefusal>
-        requires { refused_limit limits ≡ None }
-        ensures stands { IfOk result (λ c. StandsFor c limits []) }
-        ensures refused { IfErr result (λ e. IsRefusedBy limits e) }
+    /// Nothing was taken yet; there is room for all that the limits allow, and no later call needs more room. Each limit is
+    /// within its range, so an error comes only where there is no memory for the tables.
+    pub fn open_within(alloc: Global, limits: Limits, seeds: Seeds) -> Result<Books, AllocError>
+        requires { AreLawful limits }
+        ensures { IfOk result (λ c. StandsFor c limits []) }
     {
-        let Ok(streams) = StreamTable::open(alloc, limits.streams, seeds.streams) else {
-            return Err(OpenRefusal::Memory);
-        };
-        let Ok(sources) = SourceTable::open(alloc, limits.sources, seeds.sources) else {
-            return Err(OpenRefusal::Memory);
-        };
-        let Ok(interfaces) = IfTable::open(alloc, limits.sources) else {
-            return Err(OpenRefusal::Memory);
-        };
+        let streams = StreamTable::open(alloc, limits.streams, seeds.streams)?;
+        let sources = SourceTable::open(alloc, limits.sources, seeds.sources)?;
+        let interfaces = IfTable::open(alloc, limits.sources)?;
         Ok(Books {
             limits,
             streams,

@@ -4,7 +4,7 @@ ghost use Rattle.std.specs.Option.{option_map};
 ghost use Rattle.datagram_core.specs.Trees.{tree_of};
 ghost use Rattle.books_spec.specs.declared.limits.Limits.{Limits};
 ghost use Rattle.books_spec.specs.Items.{Item, Got, Malformed as Faulty};
-ghost use Rattle.books_spec.specs.Limits.{refused_limit};
+ghost use Rattle.books_spec.specs.Limits.{AreLawful, refused_limit};
 ghost use Rattle.books_spec.specs.Books.{books, taken, totals, listed_streams, listed_sources, most_entries};
 ghost use Rattle.books_spec.specs.WholeBooks.{whole_books};
 ghost use Rattle.collector_views.specs.Views.{stream_shown, source_shown};
@@ -26,7 +26,7 @@ use collector_views::{IfView, Limits, SourceView, StreamView, Totals};
 use data_format::Fault;
 use datagram_core::Datagram;
 use sample_taps::{Briefing, ClassTotals, Tap, Taps};
-use std::alloc::Global;
+use std::alloc::{AllocError, Global};
 use std::marker::Model;
 use stream_books::Taken;
 
@@ -67,6 +67,19 @@ impl Collector {
             }),
             Err(refusal) => Err(refusal),
         }
+    }
+
+    /// Nothing was taken yet; there is room for all that the limits allow, and no later call needs more room. Each limit is
+    /// within its range, so an error comes only where there is no memory for the tables.
+    pub fn open_within(alloc: Global, limits: Limits, seeds: Seeds) -> Result<Collector, AllocError>
+        requires { AreLawful limits }
+        ensures stands { IfOk result (λ c. StandsFor c.books limits []) }
+        ensures classes { IfOk result (λ c. c.classes ≡ no_classes) }
+    {
+        Ok(Collector {
+            books: Books::open_within(alloc, limits, seeds)?,
+            briefing: Briefing::new(),
+        })
     }
 
     /// Takes a datagram, which arrived at `at` ms, as the next entry, and answers, in this order: `Spent`, exactly
