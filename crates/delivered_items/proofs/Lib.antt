@@ -3,4 +3,9 @@ pub mod Kept
 pub mod Lawful
 pub mod Shown
 pub mod Read
+pub mod Headers
+pub mod InTime
+pub mod DeliveredPlaces
+pub mod CountedHeaders
+pub mod AccountHeaders
 pub mod MadeAccepted

@@ -115,7 +115,7 @@ read-again history d g =
 -- ---- its item
 
 module _ (read : Tree → items.Sample) (reads : Trees → List items.Sample) (r : IsReader read reads) (history : List SubAgent) where
-  one-item : (d : Delivery) → IsGood history d → entry_item reads (entry_of history d) ≡ item d
+  pub one-item : (d : Delivery) → IsGood history d → entry_item reads (entry_of history d) ≡ item d
   one-item d g =
       let sender : Sender = (agent_of history d.stream).sender in
       let head : Head = record {

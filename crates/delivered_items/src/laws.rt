@@ -12,6 +12,12 @@ ghost use Rattle.account_spec.specs.Histories.{SubAgent, agent_of, IsHistory};
 ghost use Rattle.account_spec.specs.Deliveries.{Delivery, AreSent, Delivers, entry_of, item};
 ghost use Rattle.delivered_items.specs.Accepted.{AreAccepted};
 ghost use Rattle.delivered_items.specs.Readers.{IsReader, entry_item};
+ghost use Rattle.books_spec.specs.declared.limits.Limits.{Limits};
+ghost use Rattle.books_spec.specs.SampledHeaders.{SampledHeader, first_headers};
+ghost use Rattle.account_spec.specs.Premises.{Premises};
+ghost use Rattle.sample_taps.specs.BookBriefs.{book_briefs, book_classes};
+ghost use Rattle.delivered_items.specs.AccountHeaders.{account_headers, account_briefs, account_classes};
+ghost use Rattle.delivered_items.specs.PacketHeaders.{headered, IsHeaderReader, headered_entry};
 ghost use Rattle.std.specs.List.{AllByRecursion};
 ghost use Rattle.trial_spec.specs.Made.{made_history};
 
@@ -32,6 +38,28 @@ pub fn entries_are_the_deliveries()
     ensures { (read : Tree → Sample) (reads : Trees → List Sample) (history : List SubAgent) (deliveries : List Delivery)
         (entries : List Entry) → IsReader read reads → IsHistory history → AreAccepted history
         → Delivers history deliveries entries → map (entry_item reads) entries ≡ map item deliveries }
+{}
+
+/// Whoever reads the headers of samples too, by their places in the formats: each entry has the headers of the packets that
+/// its datagram's flow samples were taken of, and of counters samples none.
+pub fn headers_are_those_of_the_packets()
+    ensures { (read : Tree → Sample) (reads : Trees → List Sample) (records : Trees → List SampledHeader)
+        (headers : Tree → List SampledHeader) (all_headers : Trees → List (List SampledHeader))
+        (history : List SubAgent) (deliveries : List Delivery) (entries : List Entry)
+        → IsReader read reads → IsHeaderReader records headers all_headers → IsHistory history → AreAccepted history
+        → Delivers history deliveries entries
+        → map (headered_entry reads all_headers) entries ≡ map headered deliveries }
+{}
+
+/// Where the premises hold, the headers that count in a collector's books are those of the account, in order: of each flow
+/// sample that is delivered in time, once. So are the briefs that consumers are fed, and the totals of classes.
+pub fn headers_that_count_are_the_account()
+    ensures headers { (l : Limits) (history : List SubAgent) (deliveries : List Delivery) → Premises l history deliveries
+        → first_headers l (map headered deliveries) ≡ account_headers l deliveries }
+    ensures briefs { (l : Limits) (history : List SubAgent) (deliveries : List Delivery) → Premises l history deliveries
+        → book_briefs l (map headered deliveries) ≡ account_briefs l deliveries }
+    ensures classes { (l : Limits) (history : List SubAgent) (deliveries : List Delivery) → Premises l history deliveries
+        → book_classes l (map headered deliveries) ≡ account_classes l deliveries }
 {}
 
 /// An agent's calls take what happens in a made run of at most 10,000,000 packets.

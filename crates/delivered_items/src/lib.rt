@@ -3,6 +3,7 @@
 //! The functions have nothing to do: each stands for what its contract states of the definitions.
 #![tactic(auto)]
 
+pub mod header_rows;
 pub mod laws;
 pub mod rows;
 pub mod whole;

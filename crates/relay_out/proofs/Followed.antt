@@ -19,7 +19,7 @@ take_within n [] ys lt = absurd (omega (arith, lt))
 take_within zero (x ∷ xs) ys lt = refl
 take_within (suc n) (x ∷ xs) ys lt = ap (λ l. x ∷ l) (take_within n xs ys (omega (arith, lt)))
 
-by_route_more : (route : Route) (before : List AgentDatagram) (d : AgentDatagram)
+pub by_route_more : (route : Route) (before : List AgentDatagram) (d : AgentDatagram)
     → by_route route (before ++ d ∷ []) ≡ by_route route before ++ (if takes route d.agent then d.bytes ∷ [] else [])
 by_route_more route [] d = go (takes route d.agent)
   where

@@ -5,3 +5,7 @@ pub mod Served
 mod RouteLists
 mod Cuts
 mod Below
+mod LineTexts
+mod Arrivals
+mod Misses
+mod Joined

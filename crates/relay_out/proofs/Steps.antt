@@ -9,7 +9,7 @@ use Rattle.relay_out.specs.Routes.{Route, AgentDatagram, takes}
 use Rattle.relay_out.specs.Relays.{at_start, progress_at, AimedBy, Aimed, Goes, Passed, AimedEach, PassedEach}
 use Rattle.relay_out.proofs.Places.{none_yet, further}
 
-element : {X : Type 0} (xs : List X) (n : ℕ) → n < length xs → (x : X) × (slice_get xs n ≡ Some x)
+pub element : {X : Type 0} (xs : List X) (n : ℕ) → n < length xs → (x : X) × (slice_get xs n ≡ Some x)
 element [] n lt = absurd (omega (arith, lt))
 element (x ∷ xs) zero lt = (x, refl)
 element (x ∷ xs) (suc n) lt = element xs n (omega (arith, lt))

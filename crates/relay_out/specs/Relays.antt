@@ -71,31 +71,6 @@ module _ {X : Type 0} (seen : X → ReceiverSeen) where
   Relayed datagrams (Some route) x was y now =
       Took (if was.stopped then [] else by_route route datagrams) x was y now
 
-  -- ---- one receiver, which is aimed and then passed datagrams one by one
-
-  -- its aim failed, and it is stopped
-  abbrev pub Missed : X → X → Progress → Type 0
-  Missed x y now = (seen y ≡ failed_receiver (seen x)) × (now ≡ record at_start { stopped = true })
-
-  -- it is aimed at the place and took all of them
-  pub record ServedAll (place : List ℕ) (datagrams : List (List ℕ)) (x y : X) (now : Progress) : Type 0 where
-    pub took : seen y ≡ passed_all datagrams (aimed_at place (seen x))
-    pub count : now ≡ record { passed = length datagrams; stopped = false }
-
-  -- it is aimed at the place, took so many of them, failed at the next one and is stopped
-  pub record ServedSome (place : List ℕ) (datagrams : List (List ℕ)) (x y : X) (now : Progress) : Type 0 where
-    pub many : ℕ
-    pub fewer : many < length datagrams
-    pub took : seen y ≡ failed_receiver (passed_all (take many datagrams) (aimed_at place (seen x)))
-    pub count : now ≡ record { passed = many; stopped = true }
-
-  -- where its count of faults didn't rise it took all that its route takes, and else a beginning
-  abbrev pub Served : List AgentDatagram → Option Route → X → X → Progress → Type 0
-  Served datagrams None x y now = (y ≡ x) × (now ≡ at_start)
-  Served datagrams (Some route) x y now =
-      Missed x y now
-      ⊎ (ServedAll route.place (by_route route datagrams) x y now ⊎ ServedSome route.place (by_route route datagrams) x y now)
-
 -- ---- all receivers, each with the route at its place
 
 -- at each place where a receiver stands, one stands there afterwards
@@ -114,7 +89,3 @@ module _ {X : Type 0} (seen : X → ReceiverSeen) where
 
   abbrev pub RelayedEach : List AgentDatagram → List Route → List X → List Progress → List X → List Progress → Type 0
   RelayedEach datagrams = AtEach (Relayed seen datagrams)
-
-  -- what was aimed and then passed datagrams, from the receivers as they were before
-  abbrev pub ServedEach : List AgentDatagram → List Route → List X → List Progress → List X → List Progress → Type 0
-  ServedEach datagrams = AtEach (λ route x was y now. Served seen datagrams route x y now)

@@ -4,6 +4,7 @@ ghost use Rattle.data_format.specs.Addresses.{address_of};
 ghost use Rattle.datagram_links.specs.Receivers.{Does, aimed_at, passed_one, shown};
 ghost use Rattle.relay_out.specs.Routes.{AgentDatagram};
 ghost use Rattle.relay_out.specs.Relays.{at_start, may_pass, progress_at, AimedBy, Goes, AimedEach, PassedEach, RelayedEach};
+ghost use Rattle.relay_out.specs.Runs.{RunServed};
 
 use crate::{Progress, Routes};
 use data_format::Address;
@@ -109,8 +110,12 @@ impl Receivers {
     /// route, in order; one that fails is stopped. The others are as before.
     pub fn aim(&mut self, routes: &Routes)
         requires { length routes.now ≤ vec_len self.old.held }
-        ensures { AimedEach (λ x. (⟦<dyn Receiver as Receiver>⟧ x.vtable).seen x.value) routes.now
+        ensures aimed { AimedEach (λ x. (⟦<dyn Receiver as Receiver>⟧ x.vtable).seen x.value) routes.now
             self.old.held.items self.old.progress self.new.held.items self.new.progress }
+
+        // A run begins, in which nothing has gone on.
+        ensures begins { RunServed (λ x. (⟦<dyn Receiver as Receiver>⟧ x.vtable).seen x.value) [] routes.now
+            self.old.held.items self.new.held.items self.new.progress }
     {
         self.progress = [Progress::start(); 8];
         for at in 0..routes.len() {
@@ -143,6 +148,14 @@ impl Receivers {
             → RelayedEach (λ x. (⟦<dyn Receiver as Receiver>⟧ x.vtable).seen x.value)
             (before ++ record { agent = address_of agent.now; bytes = bytes.now } ∷ []) routes.now
             xs was self.new.held.items self.new.progress }
+
+        // Where a run was served by these receivers, it still is when this datagram goes on in it.
+        ensures serves { (before : List AgentDatagram) (xs : List _)
+            → RunServed (λ x. (⟦<dyn Receiver as Receiver>⟧ x.vtable).seen x.value) before routes.now
+            xs self.old.held.items self.old.progress
+            → RunServed (λ x. (⟦<dyn Receiver as Receiver>⟧ x.vtable).seen x.value)
+            (before ++ record { agent = address_of agent.now; bytes = bytes.now } ∷ []) routes.now
+            xs self.new.held.items self.new.progress }
     {
         for at in 0..routes.len() {
             let progress = self.progress[at];
@@ -151,6 +164,16 @@ impl Receivers {
             self.progress[at] = pass_one(&mut self.held[at], progress, goes, bytes);
         }
     }
+
+    /// A law, with nothing to do: while fewer than 2^64 - 1 datagrams have gone on in a run, one more can go on.
+    pub fn leave_room(&self, routes: &Routes)
+        requires { length routes.now ≤ vec_len self.now.held }
+        ensures { (before : List AgentDatagram) (xs : List _)
+            → RunServed (λ x. (⟦<dyn Receiver as Receiver>⟧ x.vtable).seen x.value) before routes.now
+            xs self.now.held.items self.now.progress
+            → length before < 2 ^ 64 - 1
+            → (at : ℕ) → at < length routes.now → (progress_at self.now.progress at).passed < 2 ^ 64 - 1 }
+    {}
 
     /// How many datagrams the receiver at this place, counted from 0, took since it was aimed.
     pub fn passed(&self, place: usize) -> u64

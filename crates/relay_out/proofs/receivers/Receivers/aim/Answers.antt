@@ -1,5 +1,6 @@
 use Rattle.std.proofs.Common.{rules, refl, arith, length, ◌<◌}
 use Rattle.relay_out.proofs.Steps.{none_aimed, aim_next, all_aimed}
+use Rattle.relay_out.proofs.Served.{begins}
 use Rattle.relay_out.proofs.receivers.Receivers.aim.Goals as goal
 
 pub loop-at-init : goal.loop-at-init
@@ -24,7 +25,13 @@ loop-at-preserved g c =
           c.place.result.now c.place.ensures c.loop-at.invariant.done c.aim_one.ensures;
     }
 
-pub returns : goal.returns
-returns g c =
+pub returns-clause-aimed : goal.returns-clause-aimed
+returns-clause-aimed g c =
     let past = c.loop-at-test.false in
     all_aimed _ c.args.routes.now _ _ c.loop-at.at _ _ (omega (arith, c.len-at-end.ensures.count)) c.loop-at.invariant.done
+
+pub returns-clause-begins : goal.returns-clause-begins
+returns-clause-begins g c =
+    let past = c.loop-at-test.false in
+    begins _ c.args.routes.now _ _ _ _
+    (all_aimed _ c.args.routes.now _ _ c.loop-at.at _ _ (omega (arith, c.len-at-end.ensures.count)) c.loop-at.invariant.done)

@@ -3,6 +3,7 @@ use Rattle.relay_out.specs.declared.progress.Progress.{Progress}
 use Rattle.relay_out.specs.Relays.{progress_at}
 use Rattle.relay_out.proofs.Steps.{not_passed_yet, pass_next, all_passed}
 use Rattle.relay_out.proofs.Followed.{follows}
+use Rattle.relay_out.proofs.Served.{serves}
 use Rattle.relay_out.proofs.receivers.Receivers.pass.Goals as goal
 
 pub pass_one-requires : goal.pass_one-requires
@@ -44,4 +45,10 @@ pub returns-clause-follows : goal.returns-clause-follows
 returns-clause-follows g c =
     let past = c.loop-at-test.false in
     λ before xs was rel. follows _ c.args.routes.now xs was _ _ _ _ before _ rel
+    (all_passed _ c.args.routes.now _ _ _ c.loop-at.at _ _ (omega (arith, c.len-at-end.ensures.count)) c.loop-at.invariant.done)
+
+pub returns-clause-serves : goal.returns-clause-serves
+returns-clause-serves g c =
+    let past = c.loop-at-test.false in
+    λ before xs run. serves _ c.args.routes.now xs before _ _ _ _ _ run
     (all_passed _ c.args.routes.now _ _ _ c.loop-at.at _ _ (omega (arith, c.len-at-end.ensures.count)) c.loop-at.invariant.done)

@@ -1,0 +1,13 @@
+pub mod ByIndex
+pub mod Delivered
+pub mod Newest
+pub mod Boots
+pub mod Window
+pub mod Ends
+pub mod Places
+pub mod Samples
+pub mod Sources
+pub mod Pairs
+pub mod Streams
+pub mod Premises
+pub mod Rows
