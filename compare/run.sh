@@ -1,9 +1,11 @@
 #!/usr/bin/env bash
 # Compares `sflow check`, `sflow check --zero` and `sflow show` with a second reader of captures, and `sflow replay` with a
-# second collector, over the examples and over made captures; and `sflow pcap` with a second reader of pcap files. It needs
-# python3, and is no part of the tests.
+# second collector, over the examples and over made captures; and `sflow pcap` with a second reader of pcap files. Compares
+# the account of made runs with that collector too, and `sflow trial`, where the program has it, with a second trial. It
+# needs python3, and is no part of the tests.
 #   compare/run.sh [SEEDS]
-# SEEDS is how many captures of 10,000 entries, how many of 4,000 datagrams sent, and how many pcap files are made (4).
+# SEEDS is how many captures of 10,000 entries, how many of 4,000 datagrams sent, how many pcap files, and how many times 300
+# runs and 25 scripts are made (4).
 set -eu
 cd "$(dirname "${BASH_SOURCE[0]}")/.."
 seeds=${1:-4}
@@ -52,6 +54,23 @@ packets() {
   fi
 }
 
+# Without this command in the program nothing is compared.
+trial() {
+  local input=$1 ours theirs
+  shift
+  ./sflow trial "$@" < "$input" > "$folder/ours" 2> "$folder/ours.said" && ours=0 || ours=$?
+  if [ "$ours" = 2 ]; then
+    return
+  fi
+  python3 compare/trial.py "$@" < "$input" > "$folder/theirs" 2> "$folder/theirs.said" && theirs=0 || theirs=$?
+  if [ "$ours" = "$theirs" ] && cmp -s "$folder/ours" "$folder/theirs" && cmp -s "$folder/ours.said" "$folder/theirs.said"; then
+    echo "same: trial $*, $input, status $ours, $(wc -l < "$folder/ours") lines"
+  else
+    echo "DIFFERENT: trial $*, $input"
+    status=1
+  fi
+}
+
 for seed in $(seq "$seeds"); do
   python3 compare/make_capture.py "$seed" 10000 > "$folder/seed-$seed.sflc"
   python3 compare/make_run.py "$seed" 4000 > "$folder/run-$seed.sflc"
@@ -79,5 +98,18 @@ done
 for file in examples/*.pcap "$folder"/*.pcap; do
   packets "$file" ''
   packets "$file" --count
+done
+for seed in $(seq "$seeds"); do
+  python3 compare/trial.py --compare "$seed" 300 ./sflow || status=1
+  for script in $(seq $((25 * seed - 24)) $((25 * seed))); do
+    python3 compare/make_script.py "$script" > "$folder/script-$script"
+    trial "$folder/script-$script"
+    trial "$folder/script-$script" --datagram-width 2 --sample-width 3 --boot-slack 100 --interfaces
+    trial "$folder/script-$script" --streams 1 --sources 2
+    head -c $((40 * script)) "$folder/script-$script" > "$folder/cut-script"
+    trial "$folder/cut-script"
+  done
+  trial /dev/null --made "$seed" --packets 100000
+  trial /dev/null --made "$seed" --packets "$seed" --interfaces
 done
 exit $status
