@@ -1,16 +1,17 @@
 -- Whether lawful words ask for limits that a collector can have.
-use Rattle.std.proofs.Common.{◌≡◌, ◌∙◌, Bool, true, false, List, Option, Some, None, refl, ap, sym, is_some, if◌then◌else◌}
+use Rattle.std.proofs.Common.{◌≡◌, ◌∙◌, ◌&&◌, ℕ, Bool, true, false, List, Option, Some, None, refl, ap, ap₂, sym, is_some, if◌then◌else◌}
 use Rattle.std.specs.Prelude.{option_and_then, option_map}
 use Rattle.std.specs.List.{list_all}
 use Rattle.books_spec.specs.declared.limits.Limits.{Limits}
 use Rattle.command_words.specs.declared.arguments.CommandName.{CommandName}
 use Rattle.command_words.specs.declared.arguments.CommandName.TheVariants as name
-use Rattle.command_words.specs.declared.command.Command.TheVariants.{Replay}
+use Rattle.command_words.specs.declared.collection.Collection.{Collection}
+use Rattle.command_words.specs.declared.command.Command.TheVariants.{Replay, Collect}
 use Rattle.command_words.specs.Rules.{Text, Rule}
 use Rattle.command_words.specs.Pieces.{Piece, text_of}
 use Rattle.command_words.specs.Reading.{counted, is_counted, lawful_pieces, pieces_from}
 use Rattle.command_words.specs.Limits.{LimitTexts, limits_asked, texts_by}
-use Rattle.command_words.specs.Commands.{command_named, command_with, interfaces_of, limits_of, rules_of}
+use Rattle.command_words.specs.Commands.{collection_of, collection_with, command_named, command_with, interfaces_of, limits_of, rules_of, turns_of}
 
 pub same_texts : {streams sources datagram_width sample_width boot_slack streams-2 sources-2 datagram_width-2 sample_width-2 boot_slack-2 : Option Text}
     → streams ≡ streams-2 → sources ≡ sources-2 → datagram_width ≡ datagram_width-2 → sample_width ≡ sample_width-2
@@ -37,6 +38,37 @@ with_limits : (o : Option Limits) (interfaces : Bool)
     → is_some o ≡ is_some (option_map (λ limits. Replay limits interfaces) o)
 with_limits None interfaces = refl
 with_limits (Some limits) interfaces = refl
+
+with_asked : (o : Option Collection) → is_some o ≡ is_some (option_map (λ asked. Collect asked) o)
+with_asked None = refl
+with_asked (Some asked) = refl
+
+-- the limits and the number of receives make what is collected
+pub both_asked : (l : Option Limits) (t : Option ℕ) (pieces : List Piece) → l ≡ limits_of pieces → t ≡ turns_of pieces
+    → (is_some l && is_some t) ≡ is_some (collection_of pieces)
+both_asked l t pieces limits turns =
+    go l t ∙ ap₂ (λ k u. is_some (option_and_then (λ m. option_map (collection_with pieces m) u) k)) limits turns
+  where
+    go : (k : Option Limits) (u : Option ℕ)
+        → (is_some k && is_some u) ≡ is_some (option_and_then (λ m. option_map (collection_with pieces m) u) k)
+    go None u = refl
+    go (Some m) None = refl
+    go (Some m) (Some n) = refl
+
+pub collect_asked : (command : CommandName) (words : List Text) (rules : List Rule) (b : Bool)
+    → command ≡ name.Collect → rules ≡ rules_of command → true ≡ is_some (lawful_pieces rules words)
+    → ((pieces : List Piece) → pieces_from rules None words ≡ Some pieces → b ≡ is_some (collection_of pieces))
+    → b ≡ is_some (command_named words command)
+collect_asked command words rules b is same lawful test =
+    go (lawful_pieces rules words) refl lawful ∙ ap (λ rs. is_some (option_and_then (command_with name.Collect) (lawful_pieces rs words))) (same ∙ ap rules_of is)
+    ∙ ap (λ n. is_some (command_named words n)) (sym is)
+  where
+    go : (o : Option (List Piece)) → lawful_pieces rules words ≡ o → true ≡ is_some o
+        → b ≡ is_some (option_and_then (command_with name.Collect) (lawful_pieces rules words))
+    go None from some = cc
+    go (Some pieces) from some =
+        test pieces (lawful_made rules words pieces from) ∙ with_asked (collection_of pieces)
+        ∙ ap (λ o. is_some (option_and_then (command_with name.Collect) o)) (sym from)
 
 pub replay_asked : (command : CommandName) (words : List Text) (rules : List Rule) (texts : LimitTexts) (limits : Option Limits) (b : Bool)
     → command ≡ name.Replay → rules ≡ rules_of command → true ≡ is_some (lawful_pieces rules words)

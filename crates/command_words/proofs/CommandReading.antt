@@ -19,6 +19,8 @@ rules_fine name.Show = refl
 rules_fine name.Check = refl
 rules_fine name.Canon = refl
 rules_fine name.Pcap = refl
+rules_fine name.Collect = refl
+rules_fine name.Send = refl
 
 name_read : (command : CommandName) → name_of (word_of command) ≡ Some command
 name_read name.Replay = refl
@@ -26,6 +28,8 @@ name_read name.Show = refl
 name_read name.Check = refl
 name_read name.Canon = refl
 name_read name.Pcap = refl
+name_read name.Collect = refl
+name_read name.Send = refl
 
 -- what is found by its word has that word
 found_first : (names : List CommandName) (word : Text) (n command : CommandName)

@@ -1,16 +1,17 @@
 -- Limits that words ask for are within their ranges.
-use Rattle.std.proofs.Common.{◌≡◌, ◌∙◌, ℕ, Bool, List, [], ◌∷◌, Option, Some, None, refl, ap, subst}
+use Rattle.std.proofs.Common.{◌≡◌, ℕ, List, [], ◌∷◌, Option, Some, None, refl, subst}
 use Rattle.std.specs.Prelude.{option_and_then, option_map}
 use Rattle.std.proofs.lemmas.Option.{same_Some}
 use Rattle.books_spec.specs.declared.limits.Limits.{Limits}
 use Rattle.books_spec.specs.Limits.{AreLawful, refused_limit}
 use Rattle.command_words.specs.declared.arguments.CommandName.{CommandName}
 use Rattle.command_words.specs.declared.arguments.CommandName.TheVariants as name
-use Rattle.command_words.specs.declared.command.Command.TheVariants.{Replay}
+use Rattle.command_words.specs.declared.command.Command.{Command}
+use Rattle.command_words.specs.declared.command.Command.TheVariants.{Replay, Collect}
 use Rattle.command_words.specs.Rules.{Text}
 use Rattle.command_words.specs.Pieces.{Piece, text_of}
 use Rattle.command_words.specs.Limits.{LimitTexts, limits_asked, number_or, texts_by, unless_refused, with_number}
-use Rattle.command_words.specs.Commands.{command_named, command_of, command_with, interfaces_of, limits_of, name_of}
+use Rattle.command_words.specs.Commands.{HasLawfulLimits, collection_under, collection_with, command_named, command_of, command_with, interfaces_of, limits_of, name_of, turns_of}
 use Rattle.command_words.specs.Reading.{lawful_pieces}
 use Rattle.command_words.specs.Commands.{rules_of}
 
@@ -37,36 +38,45 @@ asked_within texts given e =
     numbered _ texts.sample_width _ given e (λ sample_width e.
     numbered _ texts.boot_slack _ given e (λ boot_slack e. not_refused (record { streams = streams; sources = sources; datagram_width = datagram_width; sample_width = sample_width; boot_slack = boot_slack }) given _ refl e)))))
 
-with_within : (command : CommandName) (pieces : List Piece) (given : Limits) (interfaces : Bool)
-    → command_with command pieces ≡ Some (Replay given interfaces)
-    → AreLawful given
-with_within name.Replay pieces given interfaces e = go (limits_of pieces) refl e
+with_lawful : (command : CommandName) (pieces : List Piece) (c : Command) → command_with command pieces ≡ Some c
+    → HasLawfulLimits c
+with_lawful name.Replay pieces c e = go (limits_of pieces) refl e
   where
     go : (o : Option Limits) → limits_of pieces ≡ o
-        → option_map (λ limits. Replay limits (interfaces_of pieces)) o ≡ Some (Replay given interfaces) → AreLawful given
+        → option_map (λ limits. Replay limits (interfaces_of pieces)) o ≡ Some c → HasLawfulLimits c
     go None is e = cc
     go (Some limits) is e =
-        let same : limits ≡ given = cc in
-        asked_within (texts_by (λ name. text_of name pieces)) given (is ∙ ap (λ l. Some l) same)
-with_within name.Show pieces given interfaces e = cc
-with_within name.Check pieces given interfaces e = cc
-with_within name.Canon pieces given interfaces e = cc
-with_within name.Pcap pieces given interfaces e = cc
-
-named_within : (words : List Text) (command : CommandName) (given : Limits) (interfaces : Bool)
-    → command_named words command ≡ Some (Replay given interfaces)
-    → AreLawful given
-named_within words command given interfaces e = go (lawful_pieces (rules_of command) words) e
+        subst HasLawfulLimits (same_Some _ _ e) (asked_within (texts_by (λ name. text_of name pieces)) limits is)
+with_lawful name.Collect pieces c e = go (limits_of pieces) refl e
   where
-    go : (o : Option (List Piece)) → option_and_then (command_with command) o ≡ Some (Replay given interfaces) → AreLawful given
-    go None e = cc
-    go (Some pieces) e = with_within command pieces given interfaces e
+    turned : (limits : Limits) → AreLawful limits → (o : Option ℕ)
+        → option_map (λ asked. Collect asked) (option_map (collection_with pieces limits) o) ≡ Some c → HasLawfulLimits c
+    turned limits within None e = cc
+    turned limits within (Some turns) e = subst HasLawfulLimits (same_Some _ _ e) within
 
-pub limits_within : (words : List Text) (given : Limits) (interfaces : Bool)
-    → command_of words ≡ Some (Replay given interfaces) → AreLawful given
-limits_within [] given interfaces e = cc
-limits_within (word ∷ words) given interfaces e = go (name_of word) e
+    go : (o : Option Limits) → limits_of pieces ≡ o
+        → option_map (λ asked. Collect asked) (option_and_then (collection_under pieces) o) ≡ Some c → HasLawfulLimits c
+    go None is e = cc
+    go (Some limits) is e =
+        turned limits (asked_within (texts_by (λ name. text_of name pieces)) limits is) (turns_of pieces) e
+with_lawful name.Show pieces c e = subst HasLawfulLimits (same_Some _ _ e) tt
+with_lawful name.Check pieces c e = subst HasLawfulLimits (same_Some _ _ e) tt
+with_lawful name.Canon pieces c e = subst HasLawfulLimits (same_Some _ _ e) tt
+with_lawful name.Pcap pieces c e = subst HasLawfulLimits (same_Some _ _ e) tt
+with_lawful name.Send pieces c e = subst HasLawfulLimits (same_Some _ _ e) tt
+
+pub named_lawful : (words : List Text) (command : CommandName) (c : Command) → command_named words command ≡ Some c
+    → HasLawfulLimits c
+named_lawful words command c e = go (lawful_pieces (rules_of command) words) e
   where
-    go : (o : Option CommandName) → option_and_then (command_named words) o ≡ Some (Replay given interfaces) → AreLawful given
+    go : (o : Option (List Piece)) → option_and_then (command_with command) o ≡ Some c → HasLawfulLimits c
     go None e = cc
-    go (Some command) e = named_within words command given interfaces e
+    go (Some pieces) e = with_lawful command pieces c e
+
+pub limits_within : (words : List Text) (c : Command) → command_of words ≡ Some c → HasLawfulLimits c
+limits_within [] c e = cc
+limits_within (word ∷ words) c e = go (name_of word) e
+  where
+    go : (o : Option CommandName) → option_and_then (command_named words) o ≡ Some c → HasLawfulLimits c
+    go None e = cc
+    go (Some command) e = named_lawful words command c e

@@ -1,21 +1,24 @@
 -- The commands: their names, their rules, and what lawful words ask for.
-use Rattle.std.specs.Prelude.{◌≡◌, Bool, List, [], ◌∷◌, Option, Some, None, codes, find, if◌then◌else◌, nat_lt, option_and_then, option_map}
+use Rattle.std.specs.Prelude.{◌≡◌, ℕ, Bool, List, [], ◌∷◌, Option, Some, None, codes, find, if◌then◌else◌, nat_lt, option_and_then, option_map}
 use Rattle.std.specs.Str.{bytes_eq}
 use Rattle.wire_spec.specs.declared.pad.Pad.{Pad}
 use Rattle.wire_spec.specs.declared.pad.Pad.TheVariants.{Any, Zero}
-use Rattle.command_words.specs.declared.arguments.Form.TheVariants.{Flag, Optional}
+use Rattle.command_words.specs.declared.arguments.Form.TheVariants.{Flag, Optional, Required}
 use Rattle.command_words.specs.declared.arguments.CommandName.{CommandName}
 use Rattle.command_words.specs.declared.arguments.CommandName.TheVariants as name
 use Rattle.capture_spec.specs.declared.pcap_output.PcapOutput.{PcapOutput}
 use Rattle.capture_spec.specs.declared.pcap_output.PcapOutput.TheVariants.{Capture, Counts}
 use Rattle.command_words.specs.declared.command.CanonVersion.{CanonVersion}
 use Rattle.command_words.specs.declared.command.CanonVersion.TheVariants as canon
+use Rattle.command_words.specs.declared.collection.Collection.{Collection}
 use Rattle.command_words.specs.declared.command.Command.{Command}
-use Rattle.command_words.specs.declared.command.Command.TheVariants.{Replay, Show, Check, Canon, Pcap}
+use Rattle.command_words.specs.declared.command.Command.TheVariants.{Replay, Show, Check, Canon, Pcap, Collect, Send}
 use Rattle.command_words.specs.Rules.{Text, Rule}
 use Rattle.books_spec.specs.declared.limits.Limits.{Limits}
 use Rattle.command_words.specs.Pieces.{Piece, AreLawful, count_of, spelling, text_of}
 use Rattle.command_words.specs.Limits.{limits_asked, texts_by}
+use Rattle.command_words.specs.Collections.{place_or, turns_asked}
+use Rattle.books_spec.specs.Limits.{AreLawful as AreWithin}
 use Rattle.command_words.specs.Reading.{lawful_pieces}
 
 -- the padding is zero where the flag stands
@@ -37,6 +40,34 @@ output_of pieces = if nat_lt 0 (count_of (codes "count") pieces) then Counts els
 -- the limits of its options
 abbrev pub limits_of : List Piece → Option Limits
 limits_of pieces = limits_asked (texts_by (λ name. text_of name pieces))
+
+-- how many receives its option asks for
+abbrev pub turns_of : List Piece → Option ℕ
+turns_of pieces = turns_asked (text_of (codes "turns") pieces)
+
+-- where it listens, and where its datagrams go
+abbrev pub listen_of : List Piece → Text
+listen_of pieces = place_or (codes "0.0.0.0:6343") (text_of (codes "listen") pieces)
+
+abbrev pub to_of : List Piece → Text
+to_of pieces = place_or (codes "127.0.0.1:6343") (text_of (codes "to") pieces)
+
+-- what `collect` is asked for
+abbrev pub collection_with : List Piece → Limits → ℕ → Collection
+collection_with pieces limits turns =
+    record { turns = turns; listen = listen_of pieces; limits = limits; interfaces = interfaces_of pieces }
+
+abbrev pub collection_under : List Piece → Limits → Option Collection
+collection_under pieces limits = option_map (collection_with pieces limits) (turns_of pieces)
+
+abbrev pub collection_of : List Piece → Option Collection
+collection_of pieces = option_and_then (collection_under pieces) (limits_of pieces)
+
+-- the limits of a command, where it has some, are within their ranges
+abbrev pub HasLawfulLimits : Command → Type 0
+HasLawfulLimits (Replay limits interfaces) = AreWithin limits
+HasLawfulLimits (Collect asked) = AreWithin asked.limits
+HasLawfulLimits _ = Unit {0}
 
 -- a command: its first word, its options and flags, and what it is with the values of its pieces, or None where one of
 -- them is out of its range
@@ -83,15 +114,40 @@ pcap_row = record {
   gives = λ pieces. Some (Pcap (output_of pieces));
 }
 
+abbrev pub collect_row : CommandRow
+collect_row = record {
+  word = codes "collect";
+  rules =
+      record { name = codes "streams"; form = Optional }
+      ∷ record { name = codes "sources"; form = Optional }
+      ∷ record { name = codes "datagram-width"; form = Optional }
+      ∷ record { name = codes "sample-width"; form = Optional }
+      ∷ record { name = codes "boot-slack"; form = Optional }
+      ∷ record { name = codes "interfaces"; form = Flag }
+      ∷ record { name = codes "turns"; form = Required }
+      ∷ record { name = codes "listen"; form = Optional }
+      ∷ [];
+  gives = λ pieces. option_map (λ asked. Collect asked) (collection_of pieces);
+}
+
+abbrev pub send_row : CommandRow
+send_row = record {
+  word = codes "send";
+  rules = record { name = codes "to"; form = Optional } ∷ [];
+  gives = λ pieces. Some (Send (to_of pieces));
+}
+
 abbrev pub row_of : CommandName → CommandRow
 row_of name.Replay = replay_row
 row_of name.Show = show_row
 row_of name.Check = check_row
 row_of name.Canon = canon_row
 row_of name.Pcap = pcap_row
+row_of name.Collect = collect_row
+row_of name.Send = send_row
 
 abbrev pub commands : List CommandName
-commands = name.Replay ∷ name.Show ∷ name.Check ∷ name.Canon ∷ name.Pcap ∷ []
+commands = name.Replay ∷ name.Show ∷ name.Check ∷ name.Canon ∷ name.Pcap ∷ name.Collect ∷ name.Send ∷ []
 
 -- ---- the same for all commands
 

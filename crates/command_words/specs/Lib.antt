@@ -4,6 +4,7 @@ pub mod Reading
 pub mod Arguments
 pub mod Numbers
 pub mod Limits
+pub mod Collections
 pub mod Commands
 pub mod Meanings
 pub mod Matching

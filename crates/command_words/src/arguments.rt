@@ -29,6 +29,8 @@ pub enum CommandName {
     Check,
     Canon,
     Pcap,
+    Collect,
+    Send,
 }
 
 static NONE: [Argument; 0] = [];
@@ -76,6 +78,47 @@ static PCAP: [Argument; 1] = [Argument {
     form: Form::Flag,
 }];
 
+// Those of `replay`, how many receives there are, and where the link listens.
+static COLLECT: [Argument; 8] = [
+    Argument {
+        name: "streams",
+        form: Form::Optional,
+    },
+    Argument {
+        name: "sources",
+        form: Form::Optional,
+    },
+    Argument {
+        name: "datagram-width",
+        form: Form::Optional,
+    },
+    Argument {
+        name: "sample-width",
+        form: Form::Optional,
+    },
+    Argument {
+        name: "boot-slack",
+        form: Form::Optional,
+    },
+    Argument {
+        name: "interfaces",
+        form: Form::Flag,
+    },
+    Argument {
+        name: "turns",
+        form: Form::Required,
+    },
+    Argument {
+        name: "listen",
+        form: Form::Optional,
+    },
+];
+
+static SEND: [Argument; 1] = [Argument {
+    name: "to",
+    form: Form::Optional,
+}];
+
 impl CommandName {
     // The command of this name.
     pub(crate) fn named(word: &str) -> Option<CommandName>
@@ -87,6 +130,8 @@ impl CommandName {
             "check" => Some(CommandName::Check),
             "canon" => Some(CommandName::Canon),
             "pcap" => Some(CommandName::Pcap),
+            "collect" => Some(CommandName::Collect),
+            "send" => Some(CommandName::Send),
             _ => None,
         }
     }
@@ -100,6 +145,8 @@ impl CommandName {
             CommandName::Check => "check",
             CommandName::Canon => "canon",
             CommandName::Pcap => "pcap",
+            CommandName::Collect => "collect",
+            CommandName::Send => "send",
         }
     }
 
@@ -112,6 +159,8 @@ impl CommandName {
             CommandName::Check => &CHECK,
             CommandName::Pcap => &PCAP,
             CommandName::Canon => &CANON,
+            CommandName::Collect => &COLLECT,
+            CommandName::Send => &SEND,
             CommandName::Show => &NONE,
         }
     }

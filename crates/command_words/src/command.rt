@@ -1,13 +1,18 @@
 ghost use Rattle.std.specs.Prelude.{◌≡◌, ◌↔◌, Bool, List, codes, if◌then◌else◌, is_some, IfOk, None, Some, Err, map, string_bytes};
 ghost use Rattle.clap.specs.Words.{found_of, kind_of, one_text};
-ghost use Rattle.command_words.specs.Commands.{command_named, command_of, command_with, rules_of};
+ghost use Rattle.command_words.specs.Commands.{HasLawfulLimits, collection_of, command_named, command_of, command_with, listen_of, rules_of, to_of, turns_of};
+ghost use Rattle.command_words.specs.declared.arguments.CommandName.TheVariants as name_is;
 ghost use Rattle.command_words.specs.Matching.{Holds};
 ghost use Rattle.command_words.specs.Pieces.{Piece};
+ghost use Rattle.command_words.specs.Arguments.{rules_in};
+ghost use Rattle.command_words.specs.Reading.{pieces_from};
 
-use crate::arguments::CommandName;
+use crate::arguments::{Argument, CommandName};
+use crate::collection::{Collection, turns_in};
 use crate::limits::LimitTexts;
 use crate::matching::matches_in;
-use crate::reading::are_lawful;
+use crate::place::Place;
+use crate::reading::{are_lawful, text};
 use capture_spec::PcapOutput;
 use clap::error::ErrorKind;
 use clap::{ArgMatches, Error};
@@ -16,8 +21,8 @@ use std::alloc::Global;
 use wire_spec::Pad;
 
 /// What the words of the command line ask for.
-#[derive(Clone, Copy, Debug, PartialEq, Eq)]
-pub enum Command {
+#[derive(Debug, Drop)]
+pub enum Command<'a> {
     /// Reads a capture and reports its streams and sources, under the limits of a collector, and with a line for each
     /// interface where that is asked for.
     Replay { limits: Limits, interfaces: bool },
@@ -29,7 +34,16 @@ pub enum Command {
     Canon { version: CanonVersion },
     /// Reads a pcap file and writes a capture of its payloads, or how many of its packets have one.
     Pcap { output: PcapOutput },
+    /// Listens at a place, receives so often, and reports the streams and sources of the datagrams that came.
+    Collect { asked: Collection<'a> },
+    /// Reads a capture and sends the bytes of each entry to a place.
+    Send { to: Place<'a> },
 }
+
+// The places where no text names one: sFlow's UDP port is 6343.
+const LISTEN: &str = "0.0.0.0:6343";
+
+const TO: &str = "127.0.0.1:6343";
 
 /// The version of the capture that is written anew.
 #[derive(Clone, Copy, Debug, PartialEq, Eq)]
@@ -106,6 +120,51 @@ fn output_in(matches: &ArgMatches) -> PcapOutput
     }
 }
 
+// Where the link listens.
+fn listen_in<'a>(matches: &ArgMatches<'a>) -> Place<'a>
+    ensures { (pieces : List Piece) → Holds (found_of matches.now) (rules_of name_is.Collect) pieces
+        → result ≡ listen_of pieces }
+{
+    Place::or(LISTEN, matches.get_str("listen"))
+}
+
+// Where the datagrams go.
+fn to_in<'a>(matches: &ArgMatches<'a>) -> Place<'a>
+    ensures { (pieces : List Piece) → Holds (found_of matches.now) (rules_of name_is.Send) pieces
+        → result ≡ to_of pieces }
+{
+    Place::or(TO, matches.get_str("to"))
+}
+
+// What `collect` is asked for.
+fn collection_in<'a>(matches: &ArgMatches<'a>) -> Option<Collection<'a>>
+    ensures { (pieces : List Piece) → Holds (found_of matches.now) (rules_of name_is.Collect) pieces
+        → result ≡ collection_of pieces }
+{
+    let Some(limits) = LimitTexts::in_matches(matches).limits() else {
+        return None;
+    };
+    let Some(turns) = turns_in(matches.get_str("turns")) else {
+        return None;
+    };
+    Some(Collection {
+        turns,
+        listen: listen_in(matches),
+        limits,
+        interfaces: interfaces_in(matches),
+    })
+}
+
+// Whether the limits and the number of receives are within their ranges.
+fn can_collect(arguments: &[Argument], words: &[String]) -> bool
+    ensures { (pieces : List Piece)
+        → pieces_from (rules_in arguments.now) None (map string_bytes words.now) ≡ Some pieces
+        → result ≡ is_some (collection_of pieces) }
+{
+    LimitTexts::in_words(arguments, words).limits().is_some()
+        && turns_in(text(arguments, words, "turns")).is_some()
+}
+
 // Whether the words ask for the command of this name. This takes no memory.
 fn asks(name: CommandName, words: &[String]) -> bool
     ensures { result ≡ is_some (command_named (map string_bytes words.now) name) }
@@ -114,18 +173,25 @@ fn asks(name: CommandName, words: &[String]) -> bool
     are_lawful(arguments, words)
         && match name {
             CommandName::Replay => LimitTexts::in_words(arguments, words).limits().is_some(),
-            CommandName::Show | CommandName::Check | CommandName::Canon | CommandName::Pcap => true,
+            CommandName::Collect => can_collect(arguments, words),
+            CommandName::Show
+            | CommandName::Check
+            | CommandName::Canon
+            | CommandName::Pcap
+            | CommandName::Send => true,
         }
 }
 
 // The command of this name, from what `clap` has read.
-fn command_in(name: CommandName, matches: &ArgMatches) -> Option<Command>
+fn command_in<'a>(name: CommandName, matches: &ArgMatches<'a>) -> Option<Command<'a>>
     ensures { (pieces : List Piece) → Holds (found_of matches.now) (rules_of name) pieces
         → result ≡ command_with name pieces }
 {
     match name {
         CommandName::Replay => {
-            let limits = LimitTexts::in_matches(matches).limits()?;
+            let Some(limits) = LimitTexts::in_matches(matches).limits() else {
+                return None;
+            };
             Some(Command::Replay {
                 limits,
                 interfaces: interfaces_in(matches),
@@ -141,28 +207,42 @@ fn command_in(name: CommandName, matches: &ArgMatches) -> Option<Command>
         CommandName::Pcap => Some(Command::Pcap {
             output: output_in(matches),
         }),
+        CommandName::Collect => match collection_in(matches) {
+            Some(asked) => Some(Command::Collect { asked }),
+            None => None,
+        },
+        CommandName::Send => Some(Command::Send { to: to_in(matches) }),
     }
 }
 
 // The command of this name, from the words after it.
-fn read_command(alloc: Global, name: CommandName, words: &[String]) -> Result<Command, WordsRefusal>
-    ensures usage { (result ≡ Err WordsRefusal.Usage) ↔ (command_named (map string_bytes words.now) name ≡ None) }
-    ensures command { IfOk result (λ c. command_named (map string_bytes words.now) name ≡ Some c) }
+fn read_command<'a>(
+    alloc: Global,
+    name: CommandName,
+    words: &'a [String],
+) -> Result<Command<'a>, WordsRefusal>
+    ensures usage { (result ≡ Err WordsRefusal.Usage) ↔ (command_named (map string_bytes words.entry.now) name ≡ None) }
+    ensures command { IfOk result (λ c. command_named (map string_bytes words.entry.now) name ≡ Some c) }
+    ensures lawful { IfOk result (λ c. HasLawfulLimits c) }
 {
     if !asks(name, words) {
         return Err(WordsRefusal::Usage);
     }
     match matches_in(alloc, name.word(), name.arguments(), words) {
-        Ok(matches) => command_in(name, &matches).ok_or(WordsRefusal::Usage),
+        Ok(matches) => match command_in(name, &matches) {
+            Some(command) => Ok(command),
+            None => Err(WordsRefusal::Usage),
+        },
         Err(error) => Err(refusal_of(&error)),
     }
 }
 
 /// The command that the words after the program's name ask for. `Usage` comes exactly where they ask for none, and
 /// before any memory is taken. `Memory` may come wherever they ask for one.
-pub fn read_words(alloc: Global, words: &[String]) -> Result<Command, WordsRefusal>
-    ensures usage { (result ≡ Err WordsRefusal.Usage) ↔ (command_of (map string_bytes words.now) ≡ None) }
-    ensures command { IfOk result (λ c. command_of (map string_bytes words.now) ≡ Some c) }
+pub fn read_words<'a>(alloc: Global, words: &'a [String]) -> Result<Command<'a>, WordsRefusal>
+    ensures usage { (result ≡ Err WordsRefusal.Usage) ↔ (command_of (map string_bytes words.entry.now) ≡ None) }
+    ensures command { IfOk result (λ c. command_of (map string_bytes words.entry.now) ≡ Some c) }
+    ensures lawful { IfOk result (λ c. HasLawfulLimits c) }
 {
     match words {
         [first, rest @ ..] => match CommandName::named(first.as_str()) {

@@ -1,14 +1,12 @@
 // What holds of the reading of words. Each law is the contract of a function with nothing to do.
-ghost use Rattle.std.specs.Prelude.{◌≡◌, ◌↔◌, ◌<◌, ◌^◌, ℕ, Bool, List, Some, IsTrue, decimal};
-ghost use Rattle.books_spec.specs.declared.limits.Limits.{Limits};
-ghost use Rattle.books_spec.specs.Limits.{AreLawful as AreWithin};
+ghost use Rattle.std.specs.Prelude.{◌≡◌, ◌↔◌, ◌<◌, ◌^◌, ℕ, List, Some, IsTrue, decimal};
 ghost use Rattle.command_words.specs.declared.arguments.CommandName.{CommandName};
 ghost use Rattle.command_words.specs.declared.command.Command.{Command};
 ghost use Rattle.command_words.specs.Rules.{Rule};
 ghost use Rattle.command_words.specs.Pieces.{Piece, AreLawful, Spell, are_rules};
 ghost use Rattle.command_words.specs.Reading.{lawful_pieces};
 ghost use Rattle.command_words.specs.Numbers.{number_in};
-ghost use Rattle.command_words.specs.Commands.{Asks, command_of, rules_of};
+ghost use Rattle.command_words.specs.Commands.{Asks, HasLawfulLimits, command_of, rules_of};
 
 /// The reading of words gives exactly the lawful pieces that spell them, and no other lawful pieces do.
 pub fn lawful_words_have_one_reading()
@@ -36,7 +34,5 @@ pub fn numbers_are_decimal()
 
 /// Words that ask for limits ask for limits that a collector can have: each is within its range.
 pub fn limits_are_lawful()
-    ensures { (words : List (List ℕ)) (limits : Limits) (interfaces : Bool)
-        → command_of words ≡ Some (Command.Replay limits interfaces)
-        → AreWithin limits }
+    ensures { (words : List (List ℕ)) (command : Command) → command_of words ≡ Some command → HasLawfulLimits command }
 {}

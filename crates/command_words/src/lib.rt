@@ -5,6 +5,7 @@
 #![tactic(auto)]
 
 mod arguments;
+mod collection;
 mod command;
 mod examples;
 mod laws;
@@ -12,16 +13,21 @@ mod limits;
 mod matching;
 mod meaning;
 mod number;
+mod place;
 mod reading;
+mod words_of_links;
 
 pub use arguments::{CommandName, Form};
 pub use capture_spec::PcapOutput;
+pub use collection::Collection;
 pub use collector_views::Limits;
 pub use command::{CanonVersion, Command, WordsRefusal, read_words};
 pub use examples::{words_of_commands, words_of_limits, words_with_options};
 pub use laws::{
     commands_are_spelled, lawful_words_have_one_reading, limits_are_lawful, numbers_are_decimal,
 };
+pub use place::Place;
+pub use words_of_links::{words_of_collect, words_of_send};
 
 #[cfg(test)]
 mod tests;

@@ -1,76 +1,82 @@
 use crate::{CanonVersion, Command, Limits, PcapOutput, WordsRefusal, read_words};
+use std::alloc::{AllocError, Global};
 use std::test::Fail;
 use wire_spec::Pad;
 
-const USAGE: Result<Command, WordsRefusal> = Err(WordsRefusal::Usage);
+fn numbers_of(alloc: Global, limits: &Limits) -> Result<String, AllocError> {
+    format!(in alloc;
+        "{} {} {} {} {}",
+        limits.streams,
+        limits.sources,
+        limits.datagram_width,
+        limits.sample_width,
+        limits.boot_slack
+    )
+}
 
-const REPLAY: Result<Command, WordsRefusal> = Ok(Command::Replay {
-    limits: Limits {
-        streams: 256,
-        sources: 4_096,
-        datagram_width: 64,
-        sample_width: 1_024,
-        boot_slack: 5_000,
-    },
-    interfaces: false,
-});
-
-const TWO_STREAMS: Result<Command, WordsRefusal> = Ok(Command::Replay {
-    limits: Limits {
-        streams: 2,
-        sources: 4_096,
-        datagram_width: 64,
-        sample_width: 1_024,
-        boot_slack: 5_000,
-    },
-    interfaces: false,
-});
-
-const ALL_LIMITS: Result<Command, WordsRefusal> = Ok(Command::Replay {
-    limits: Limits {
-        streams: 4_096,
-        sources: 65_536,
-        datagram_width: 8_192,
-        sample_width: 1,
-        boot_slack: 1_073_741_824,
-    },
-    interfaces: false,
-});
-
-const CANON: Result<Command, WordsRefusal> = Ok(Command::Canon {
-    version: CanonVersion::Same,
-});
-
-const MIGRATE: Result<Command, WordsRefusal> = Ok(Command::Canon {
-    version: CanonVersion::Two,
-});
-
-const PCAP: Result<Command, WordsRefusal> = Ok(Command::Pcap {
-    output: PcapOutput::Capture,
-});
-
-const PCAP_COUNT: Result<Command, WordsRefusal> = Ok(Command::Pcap {
-    output: PcapOutput::Counts,
-});
-
-const SHOW: Result<Command, WordsRefusal> = Ok(Command::Show);
-
-const CHECK: Result<Command, WordsRefusal> = Ok(Command::Check { pad: Pad::Any });
-
-const CHECK_ZERO: Result<Command, WordsRefusal> = Ok(Command::Check { pad: Pad::Zero });
+// What was read, in short.
+fn told(alloc: Global, read: &Result<Command<'_>, WordsRefusal>) -> Result<String, AllocError> {
+    match read {
+        Err(WordsRefusal::Usage) => String::from_str(alloc, "usage"),
+        Err(WordsRefusal::Memory) => String::from_str(alloc, "memory"),
+        Ok(Command::Replay { limits, interfaces }) => {
+            let numbers = numbers_of(alloc, limits)?;
+            format!(in alloc; "replay {numbers} {interfaces}")
+        }
+        Ok(Command::Show) => String::from_str(alloc, "show"),
+        Ok(Command::Check { pad: Pad::Any }) => String::from_str(alloc, "check"),
+        Ok(Command::Check { pad: Pad::Zero }) => String::from_str(alloc, "check zero"),
+        Ok(
+            Command::Canon {
+                version: CanonVersion::Same,
+            },
+        ) => String::from_str(alloc, "canon"),
+        Ok(
+            Command::Canon {
+                version: CanonVersion::Two,
+            },
+        ) => String::from_str(alloc, "canon two"),
+        Ok(
+            Command::Pcap {
+                output: PcapOutput::Capture,
+            },
+        ) => String::from_str(alloc, "pcap"),
+        Ok(
+            Command::Pcap {
+                output: PcapOutput::Counts,
+            },
+        ) => String::from_str(alloc, "pcap counts"),
+        Ok(Command::Collect { asked }) => {
+            let numbers = numbers_of(alloc, &asked.limits)?;
+            format!(in alloc;
+                "collect {} {} {numbers} {}",
+                asked.turns,
+                asked.listen.text(),
+                asked.interfaces
+            )
+        }
+        Ok(Command::Send { to }) => format!(in alloc; "send {}", to.text()),
+    }
+}
 
 // With ample memory each list of words has its reading.
 #[test]
 fn words_have_their_readings(rt: HostRuntime) -> Result<(), Fail> {
-    let cases: [(&[&str], Result<Command, WordsRefusal>); 43] = [
-        (&[], USAGE),
-        (&[""], USAGE),
-        (&["replay"], REPLAY),
-        (&["replay", "extra"], USAGE),
-        (&["replay", "--"], USAGE),
-        (&["replay", "--zero"], USAGE),
-        (&["replay", "--streams", "2"], TWO_STREAMS),
-        (&["replay", "--streams=2"], TWO_STREAMS),
+    let cases: [(&[&str], &str); 56] = [
+        (&[], "usage"),
+        (&[""], "usage"),
+        (&["replay"], "replay 256 4096 64 1024 5000 false"),
+        (&["replay", "extra"], "usage"),
+        (&["replay", "--"], "usage"),
+        (&["replay", "--zero"], "usage"),
+        (
+            &["replay", "--streams", "2"],
+            "replay 2 4096 64 1024 5000 false",
+        ),
+        (
+            &["replay", "--streams=2"],
+            "replay 2 4096 64 1024 5000 false",
+        ),
         (
             &[
                 "replay",
@@ -82,42 +88,67 @@ fn words_have_their_readings(rt: HostRuntime) -> Result<(), Fail> {
                 "65536",
                 "--streams=4096",
             ],
-            ALL_LIMITS,
+            "replay 4096 65536 8192 1 1073741824 false",
         ),
-        (&["replay", "--streams", "0"], USAGE),
-        (&["replay", "--streams=4097"], USAGE),
-        (&["replay", "--sources", "65537"], USAGE),
-        (&["replay", "--boot-slack", "99"], USAGE),
-        (&["replay", "--streams=02"], USAGE),
-        (&["replay", "--streams=+5"], USAGE),
-        (&["replay", "--streams", "-5"], USAGE),
-        (&["replay", "--streams="], USAGE),
-        (&["replay", "--streams", ""], USAGE),
-        (&["replay", "--streams=2", "--streams=2"], USAGE),
-        (&["replay", "--streams=4294967298"], USAGE),
-        (&["canon"], CANON),
-        (&["canon", "--migrate"], MIGRATE),
-        (&["canon", "--migrate=2"], USAGE),
-        (&["canon", "--zero"], USAGE),
-        (&["pcap"], PCAP),
-        (&["pcap", "--count"], PCAP_COUNT),
-        (&["pcap", "--count", "--count"], USAGE),
-        (&["pcap", "--count="], USAGE),
-        (&["show"], SHOW),
-        (&["check"], CHECK),
-        (&["check", "--zero"], CHECK_ZERO),
-        (&["check", "--zero="], USAGE),
-        (&["check", "--zero=1"], USAGE),
-        (&["check", "--zero", "--zero"], USAGE),
-        (&["check", "--zero", "x"], USAGE),
-        (&["check", "-z"], USAGE),
-        (&["check", "--help"], USAGE),
-        (&["check", "-h"], USAGE),
-        (&["check", "--version"], USAGE),
-        (&["check", "-V"], USAGE),
-        (&["check", ""], USAGE),
-        (&["--zero", "check"], USAGE),
-        (&["Check"], USAGE),
+        (&["replay", "--streams", "0"], "usage"),
+        (&["replay", "--streams=4097"], "usage"),
+        (&["replay", "--sources", "65537"], "usage"),
+        (&["replay", "--boot-slack", "99"], "usage"),
+        (&["replay", "--streams=02"], "usage"),
+        (&["replay", "--streams=+5"], "usage"),
+        (&["replay", "--streams", "-5"], "usage"),
+        (&["replay", "--streams="], "usage"),
+        (&["replay", "--streams", ""], "usage"),
+        (&["replay", "--streams=2", "--streams=2"], "usage"),
+        (&["replay", "--streams=4294967298"], "usage"),
+        (&["canon"], "canon"),
+        (&["canon", "--migrate"], "canon two"),
+        (&["canon", "--migrate=2"], "usage"),
+        (&["canon", "--zero"], "usage"),
+        (&["pcap"], "pcap"),
+        (&["pcap", "--count"], "pcap counts"),
+        (&["pcap", "--count", "--count"], "usage"),
+        (&["pcap", "--count="], "usage"),
+        (&["show"], "show"),
+        (&["check"], "check"),
+        (&["check", "--zero"], "check zero"),
+        (&["check", "--zero="], "usage"),
+        (&["check", "--zero=1"], "usage"),
+        (&["check", "--zero", "--zero"], "usage"),
+        (&["check", "--zero", "x"], "usage"),
+        (&["check", "-z"], "usage"),
+        (&["check", "--help"], "usage"),
+        (&["check", "-h"], "usage"),
+        (&["check", "--version"], "usage"),
+        (&["check", "-V"], "usage"),
+        (&["check", ""], "usage"),
+        (&["--zero", "check"], "usage"),
+        (&["Check"], "usage"),
+        (&["collect"], "usage"),
+        (
+            &["collect", "--turns", "5"],
+            "collect 5 0.0.0.0:6343 256 4096 64 1024 5000 false",
+        ),
+        (
+            &[
+                "collect",
+                "--interfaces",
+                "--listen=[::1]:7000",
+                "--turns=4294967295",
+                "--streams=2",
+            ],
+            "collect 4294967295 [::1]:7000 2 4096 64 1024 5000 true",
+        ),
+        (&["collect", "--turns=0"], "usage"),
+        (&["collect", "--turns=4294967296"], "usage"),
+        (&["collect", "--turns=5", "--listen="], "usage"),
+        (&["collect", "--turns=5", "--listen", "-1"], "usage"),
+        (&["collect", "--turns=5", "--turns=5"], "usage"),
+        (&["collect", "--turns=5", "--sources=0"], "usage"),
+        (&["send"], "send 127.0.0.1:6343"),
+        (&["send", "--to", "a.example:1"], "send a.example:1"),
+        (&["send", "--to"], "usage"),
+        (&["send", "--listen=a:1"], "usage"),
     ];
     for (texts, want) in cases {
         assert!(rt; texts.len() < 16);
@@ -125,7 +156,8 @@ fn words_have_their_readings(rt: HostRuntime) -> Result<(), Fail> {
         for text in texts {
             words.push(String::from_str(rt.alloc(), text)?)?;
         }
-        assert_eq!(rt; read_words(rt.alloc(), &words), want, "{texts:?}");
+        let read = told(rt.alloc(), &read_words(rt.alloc(), &words))?;
+        assert_eq!(rt; read.as_str(), want, "{texts:?}");
     }
     Ok(())
 }

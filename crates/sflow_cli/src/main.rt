@@ -1,4 +1,4 @@
-//! The program `sflow`: the commands over standard input and standard output.
+//! The program `sflow`: the commands over standard input, standard output and a UDP socket.
 #![tactic(auto)]
 
 ghost use Rattle.std.specs.Prelude.{◌≡◌};
@@ -15,6 +15,9 @@ use std::hash::RandomState;
 use std::process::ExitCode;
 use std::random::RandomSource;
 use std::{env, io};
+
+#[cfg(test)]
+mod tests;
 
 // The exit codes where the machine gives no list of words, and where it gives no random bytes.
 const NO_WORDS: u8 = 9;

@@ -16,7 +16,7 @@ use std::{fs, io};
 use table::Table;
 
 // What rows share comes first.
-const TABLES: [&str; 15] = [
+const TABLES: [&str; 16] = [
     "parts.txt",
     "words.txt",
     "replay.txt",
@@ -31,6 +31,7 @@ const TABLES: [&str; 15] = [
     "ends.txt",
     "pcap.txt",
     "versions.txt",
+    "links.txt",
     "wrong.txt",
 ];
 

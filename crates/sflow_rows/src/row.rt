@@ -25,6 +25,19 @@ pub struct Row {
     pub taps: Vec<Consumer>,
     /// The lines of those that are held after the run, where they are compared.
     pub held: Option<String>,
+    /// What the link gives.
+    pub items: Vec<Item>,
+    /// The numbers of the calls of the link that fail, from 1 on.
+    pub link_fails: Vec<u64>,
+    /// The datagrams that the link must take to send.
+    pub sent: Vec<Vec<u8>>,
+}
+
+/// What a receive of a link gives: a datagram and its arrival in ms, or nothing.
+#[derive(Clone, Drop)]
+pub enum Item {
+    Got { at: u64, bytes: Vec<u8> },
+    Quiet,
 }
 
 /// A consumer of sampled headers.
@@ -53,6 +66,9 @@ impl Row {
             left: None,
             taps: Vec::new(alloc),
             held: None,
+            items: Vec::new(alloc),
+            link_fails: Vec::new(alloc),
+            sent: Vec::new(alloc),
         })
     }
 }

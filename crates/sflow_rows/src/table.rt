@@ -1,6 +1,6 @@
 //! The lines of a table; data/parts.txt says what each of them means.
 use crate::misread::Misread;
-use crate::row::{Consumer, Row};
+use crate::row::{Consumer, Item, Row};
 use crate::spelling::{Part, append};
 use std::alloc::Global;
 
@@ -132,6 +132,18 @@ fn take_of_row(
             row.left = Some(rest.parse::<usize>()?);
             Ok(())
         }
+        "got" => take_got(row, alloc, parts, rest),
+        "quiet" => {
+            row.items.push(Item::Quiet)?;
+            Ok(())
+        }
+        "link-fails" => take_numbers(&mut row.link_fails, rest),
+        "sent" => {
+            let mut bytes = Vec::new(alloc);
+            append(&mut bytes, parts, rest)?;
+            row.sent.push(bytes)?;
+            Ok(())
+        }
         "taps" => take_taps(&mut row.taps, rest),
         "held" => take_held(row, alloc, rest),
         "status" => {
@@ -148,6 +160,16 @@ fn take_words_of(words: &mut Vec<String>, alloc: Global, rest: &str) -> Result<(
         let word = if word == "''" { "" } else { word };
         words.push(String::from_str(alloc, word)?)?;
     }
+    Ok(())
+}
+
+// The arrival in ms, and the bytes of the datagram.
+fn take_got(row: &mut Row, alloc: Global, parts: &[Part], rest: &str) -> Result<(), Misread> {
+    let (at, text) = key_of(rest);
+    let at = at.parse::<u64>()?;
+    let mut bytes = Vec::new(alloc);
+    append(&mut bytes, parts, text)?;
+    row.items.push(Item::Got { at, bytes })?;
     Ok(())
 }
 

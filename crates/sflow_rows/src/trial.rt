@@ -1,8 +1,8 @@
 //! A row's runs over the memory forms of the outside.
-use crate::row::{Consumer, Row};
+use crate::row::{Consumer, Item, Row};
 use sflow_tool::{
-    CountTap, LengthTap, MemoryLink, MemorySink, MemorySource, Seeds, Source, Status, Tap, Taps,
-    TopPortTap, run,
+    CountTap, LengthTap, LinkItem, MemoryLink, MemorySink, MemorySource, Seeds, Source, Status,
+    Tap, Taps, TopPortTap, run,
 };
 use std::alloc::{AllocError, Global};
 
@@ -42,7 +42,8 @@ fn difference_in_pieces(
     let write_fails = Vec::from_slice(alloc, &row.write_fails)?;
     let mut source = MemorySource::new(bytes, piece.max(1), read_fails);
     let mut sink = MemorySink::new(alloc, row.room, write_fails);
-    let mut link = MemoryLink::new(alloc, Vec::new(alloc), Vec::new(alloc));
+    let link_fails = Vec::from_slice(alloc, &row.link_fails)?;
+    let mut link = MemoryLink::new(alloc, items_of(alloc, row)?, link_fails);
     let mut boxes: Vec<Box<dyn Tap>> = Vec::new(alloc);
     for tap in &row.taps {
         match tap {
@@ -69,8 +70,11 @@ fn difference_in_pieces(
         let output = String::from_utf8_lossy(alloc, sink.bytes())?;
         return Ok(Some(format!(in alloc; "output {output:?}")?));
     }
-    if sink.lacked() != 0 {
-        return Ok(Some(String::from_str(alloc, "the sink lacked memory")?));
+    if sink.lacked() != 0 || link.lacked() != 0 {
+        return Ok(Some(String::from_str(alloc, "memory was lacking")?));
+    }
+    if link.sent() != row.sent.as_slice() {
+        return Ok(Some(format!(in alloc; "sent {:?}", link.sent())?));
     }
     if let Some(want) = &row.held {
         let held = held_lines(alloc, &taps)?;
@@ -86,6 +90,22 @@ fn difference_in_pieces(
         return Ok(Some(format!(in alloc; "left {}", left.len())?));
     }
     Ok(None)
+}
+
+// What the link gives.
+fn items_of(alloc: Global, row: &Row) -> Result<Vec<LinkItem>, AllocError> {
+    let mut items = Vec::new(alloc);
+    for item in &row.items {
+        let item = match item {
+            Item::Got { at, bytes } => LinkItem::Got {
+                at: *at,
+                bytes: bytes.clone()?,
+            },
+            Item::Quiet => LinkItem::Quiet,
+        };
+        items.push(item)?;
+    }
+    Ok(items)
 }
 
 // The lines of the consumers that are held.

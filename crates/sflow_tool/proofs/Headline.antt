@@ -44,7 +44,7 @@ use Rattle.sflow_tool.proofs.Items.{map_reverse}
 
 -- ---- the collector reads what was sent
 
-reader : IsReader sample_in samples_in
+pub reader : IsReader sample_in samples_in
 unfolding sample_in
 reader = record {
   flow = λ n source rate pool drops input output records. refl;
@@ -59,14 +59,14 @@ read_so : (arrival : ℕ) (r : Result Tree Fault) → item_of arrival r ≡ item
 read_so arrival (Ok t) = refl
 read_so arrival (Err f) = refl
 
-abbrev item_at : Entry → Item
+abbrev pub item_at : Entry → Item
 item_at e = item_in e.arrival e.bytes
 
 each_read : (entries : List Entry) → map item_at entries ≡ map (delivered_item samples_in) entries
 each_read [] = refl
 each_read (e ∷ more) = λ j. read_so e.arrival (whole_reading Any datagram_read e.bytes) j ∷ each_read more j
 
-delivered : (history : List SubAgent) (deliveries : List Delivery) (entries : List Entry) → IsHistory history
+pub delivered : (history : List SubAgent) (deliveries : List Delivery) (entries : List Entry) → IsHistory history
     → AreAccepted history → Delivers history deliveries entries → map item_at entries ≡ map item deliveries
 delivered history deliveries entries is accepted d =
     each_read entries
@@ -80,7 +80,7 @@ entries_in (Ok capture) = capture.1
 entries_in (Err fault) = []
 
 -- bytes are a capture of one list of entries
-same_received : (v w : CaptureVersion) (es fs : List Received) (input : List ℕ) → ReceivedAll v es input
+pub same_received : (v w : CaptureVersion) (es fs : List Received) (input : List ℕ) → ReceivedAll v es input
     → ReceivedAll w fs input → es ≡ fs
 same_received v w es fs input one other =
     ap entries_in (sym (outcome_back input (Ok (v, es)) one) ∙ outcome_back input (Ok (w, fs)) other)
@@ -89,7 +89,7 @@ of_received : (es : List Received) → map entry_item es ≡ map item_at (map en
 of_received [] = refl
 of_received (e ∷ es) = ap (λ items. entry_item e ∷ items) (of_received es)
 
-in_their_order : (received : List Received) (entries : List Entry) → map entry_of received ≡ reverse entries
+pub in_their_order : (received : List Received) (entries : List Entry) → map entry_of received ≡ reverse entries
     → items_in received ≡ map item_at entries
 in_their_order received entries order =
     ap reverse (of_received received ∙ ap (map item_at) order ∙ map_reverse item_at entries)

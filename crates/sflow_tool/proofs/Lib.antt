@@ -1,8 +1,14 @@
 pub mod Reports
 pub mod Rows
 pub mod PcapRuns
+pub mod SendRuns
+pub mod Turns
+pub mod CollectRuns
+pub mod LinkRuns
 pub mod Performed
 pub mod Headline
+pub mod DeliveredClasses
+pub mod Collected
 pub mod Canonical
 pub mod CanonLaws
 pub mod CheckLaws

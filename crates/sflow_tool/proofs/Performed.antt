@@ -11,10 +11,11 @@ use Rattle.report_lines.specs.HeaderLines.{ShownTaps, no_taps}
 use Rattle.sample_taps.specs.declared.brief.Brief.{Brief}
 use Rattle.sample_taps.specs.Feeding.{Held}
 use Rattle.command_words.specs.declared.command.Command.{Command}
-use Rattle.command_words.specs.declared.command.Command.TheVariants.{Replay, Show, Check, Canon, Pcap}
+use Rattle.command_words.specs.declared.command.Command.TheVariants.{Replay, Show, Check, Canon, Pcap, Collect, Send}
 use Rattle.command_runs.specs.declared.status.Status.{Status}
 use Rattle.command_runs.specs.declared.status.Status.TheVariants.{Done, Found, Usage, ReadFault, WriteFault, BadInput, Memory, LinkFault, Spent}
 use Rattle.command_runs.specs.Acts.{Act}
+use Rattle.command_words.specs.declared.collection.Collection.{Collection}
 use Rattle.command_runs.specs.Grammars.{Grammar, captures, pcap_files}
 use Rattle.command_runs.specs.Outside.{Outside, outside}
 use Rattle.command_runs.specs.Readings.{Decides, HasOneEnding}
@@ -26,6 +27,10 @@ use Rattle.command_runs.proofs.Completed.{completed}
 use Rattle.command_runs.proofs.PcapEndings.{pcap_files_once}
 use Rattle.sflow_tool.specs.Canons.{canon_act}
 use Rattle.sflow_tool.specs.Checks.{check_act}
+use Rattle.sflow_tool.specs.Collects.{HasCome, received_of}
+use Rattle.sflow_tool.specs.Sends.{Sends, send_act}
+use Rattle.sflow_tool.proofs.LinkRuns.{collect_lacks, collects_usage, completes_collect, completes_send, one_done, send_lacks, sends_usage}
+use Rattle.sflow_tool.proofs.CollectRuns.{none_at_memory}
 use Rattle.sflow_tool.specs.Pcaps.{pcap_act}
 use Rattle.sflow_tool.specs.Performances.{EndsBy, IsFed, Performs}
 use Rattle.sflow_tool.specs.Replays.{briefs_in, replay_act}
@@ -36,6 +41,11 @@ use Rattle.sflow_tool.specs.Surroundings.{RunsBetween, RunsCollecting, Surroundi
 pub of_this : (c d : Command) (before after : Surroundings) (status : Status) → d ≡ c → Performs c before after status
     → Performs d before after status
 of_this c d before after status is ran = subst (λ (x : Command). Performs x before after status) (sym is) ran
+
+-- a run of `send` to a place that is named by this text
+pub sends_as : (to text : List ℕ) (before after : Surroundings) (status : Status) → text ≡ to
+    → Sends text before after status → Performs (Send to) before after status
+sends_as to text before after status is ran = subst (λ t. Sends t before after status) is ran
 
 -- a run from the source to the sink, which touched neither the link nor the consumers
 pub between : {X : Type 0} (g : Grammar X) (a : Act X) (source sink source' sink' : Seen) (link : LinkSeen)
@@ -77,6 +87,8 @@ lacks_memory Show = lacks captures show_act
 lacks_memory (Check pad) = lacks captures (check_act pad)
 lacks_memory (Canon to) = lacks captures (canon_act to)
 lacks_memory (Pcap output) = lacks pcap_files (pcap_act output)
+lacks_memory (Collect asked) = collect_lacks asked
+lacks_memory (Send to) = send_lacks to
 
 -- no command ends with `Usage`
 pub no_usage : (c : Command) (before after : Surroundings) → Performs c before after Usage → ⊥
@@ -85,6 +97,8 @@ no_usage Show before after ran = ran.ran.may
 no_usage (Check pad) before after ran = ran.ran.may
 no_usage (Canon to) before after ran = ran.ran.may
 no_usage (Pcap output) before after ran = ran.ran.may
+no_usage (Collect asked) before after ran = collects_usage asked before after ran
+no_usage (Send to) before after ran = sends_usage to before after ran
 
 -- an input makes a run of a command end in one way
 pub some_ending : (c : Command) (input : List ℕ) → AreBytes input → (ending : Status) × EndsBy c input ending
@@ -93,6 +107,8 @@ some_ending Show input are = captures_once.some show_act input are
 some_ending (Check pad) input are = captures_once.some (check_act pad) input are
 some_ending (Canon to) input are = captures_once.some (canon_act to) input are
 some_ending (Pcap output) input are = pcap_files_once.some (pcap_act output) input are
+some_ending (Collect asked) input are = (Done, refl)
+some_ending (Send to) input are = captures_once.some send_act input are
 
 pub one_ending : (c : Command) (input : List ℕ) (one other : Status) → AreBytes input → EndsBy c input one
     → EndsBy c input other → one ≡ other
@@ -101,6 +117,8 @@ one_ending Show = captures_once.one show_act
 one_ending (Check pad) = captures_once.one (check_act pad)
 one_ending (Canon to) = captures_once.one (canon_act to)
 one_ending (Pcap output) = pcap_files_once.one (pcap_act output)
+one_ending (Collect asked) = one_done
+one_ending (Send to) = captures_once.one send_act
 
 -- how an input makes a run end depends on what it finds alone
 decides_as : {X : Type 0} (g : Grammar X) (a b : Act X) → ((x : X) → b.finds x ≡ a.finds x) → (input : List ℕ)
@@ -147,16 +165,18 @@ completes Show = completes_between captures show_act captures_once
 completes (Check pad) = completes_between captures (check_act pad) captures_once
 completes (Canon to) = completes_between captures (canon_act to) captures_once
 completes (Pcap output) = completes_between pcap_files (pcap_act output) pcap_files_once
+completes (Collect asked) = completes_collect asked
+completes (Send to) = completes_send to
 
 -- ---- what a run feeds the consumers
 
-module _ {X : Type 0} (step : X → Brief → X → Type 0) (done : X → Bool) (before after : Outside) (status : Status)
+module _ {X : Type 0} (step : X → Brief → X → Type 0) (done : X → Bool) (before after : Surroundings) (status : Status)
     (xs ys : List X) where
   pub fed_as : (c d : Command) → d ≡ c → IsFed step done c before after status xs ys → IsFed step done d before after status xs ys
   fed_as c d is fed = subst (λ (x : Command). IsFed step done x before after status xs ys) (sym is) fed
 
   pub fed_read : (l : Limits) (interfaces : Bool)
-      → HasVisited (λ entries. Held step done (briefs_in l entries) xs ys) before.source after.source status
+      → HasVisited (λ entries. Held step done (briefs_in l entries) xs ys) before.ends.source after.ends.source status
       → IsFed step done (Replay l interfaces) before after status xs ys
   fed_read l interfaces seen = record {
     briefs = briefs_in l seen.read.entries;
@@ -164,7 +184,16 @@ module _ {X : Type 0} (step : X → Brief → X → Type 0) (done : X → Bool) 
     held = seen.were;
   }
 
-module _ {X : Type 0} (step : X → Brief → X → Type 0) (done : X → Bool) (before after : Outside) (xs : List X) where
+  pub fed_come : (asked : Collection)
+      → HasCome (λ entries. Held step done (briefs_in asked.limits entries) xs ys) asked before.link after.link status
+      → IsFed step done (Collect asked) before after status xs ys
+  fed_come asked come = record {
+    briefs = briefs_in asked.limits (received_of come.entries);
+    feeds = record { turns = come.turns; entries = come.entries; came = come.came; were = refl; turned = come.turned; left = come.left };
+    held = come.were;
+  }
+
+module _ {X : Type 0} (step : X → Brief → X → Type 0) (done : X → Bool) (before after : Surroundings) (xs : List X) where
   -- a command that doesn't collect gives no brief
   pub unfed_show : (status : Status) → IsFed step done Show before after status xs xs
   unfed_show status = record { briefs = []; feeds = refl; held = refl }
@@ -178,10 +207,16 @@ module _ {X : Type 0} (step : X → Brief → X → Type 0) (done : X → Bool) 
   pub unfed_pcap : (status : Status) (output : PcapOutput) → IsFed step done (Pcap output) before after status xs xs
   unfed_pcap status output = record { briefs = []; feeds = refl; held = refl }
 
-  -- nor does a run that has no memory
-  pub unfed_memory : (c : Command) → IsFed step done c before after Memory xs xs
+  pub unfed_send : (status : Status) (to : List ℕ) → IsFed step done (Send to) before after status xs xs
+  unfed_send status to = record { briefs = []; feeds = refl; held = refl }
+
+-- nor does a run that has no memory
+module _ {X : Type 0} (step : X → Brief → X → Type 0) (done : X → Bool) (before : Surroundings) (xs : List X) where
+  pub unfed_memory : (c : Command) → IsFed step done c before before Memory xs xs
   unfed_memory (Replay l interfaces) = record { briefs = []; feeds = none_visited _ _ _ refl; held = refl }
-  unfed_memory Show = unfed_show Memory
-  unfed_memory (Check pad) = unfed_check Memory pad
-  unfed_memory (Canon to) = unfed_canon Memory to
-  unfed_memory (Pcap output) = unfed_pcap Memory output
+  unfed_memory Show = unfed_show step done before before xs Memory
+  unfed_memory (Check pad) = unfed_check step done before before xs Memory pad
+  unfed_memory (Canon to) = unfed_canon step done before before xs Memory to
+  unfed_memory (Pcap output) = unfed_pcap step done before before xs Memory output
+  unfed_memory (Collect asked) = record { briefs = []; feeds = none_at_memory _ asked before.link refl; held = refl }
+  unfed_memory (Send to) = unfed_send step done before before xs Memory to

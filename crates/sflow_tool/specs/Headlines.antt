@@ -26,3 +26,12 @@ pub record IsDelivered (l : Limits) (history : List SubAgent) (deliveries : List
   pub entries : List Entry
   pub delivers : Delivers history deliveries entries
   pub capture : IsCaptureOf entries input
+
+-- these datagrams are those that agents sent, in order of arrival, and the premises hold
+pub record IsCollected (l : Limits) (history : List SubAgent) (deliveries : List Delivery) (came : List Entry)
+    : Type 0 where
+  pub accepted : AreAccepted history
+  pub premises : Premises l history deliveries
+  pub entries : List Entry
+  pub delivers : Delivers history deliveries entries
+  pub in_order : came ≡ reverse entries

@@ -5,6 +5,8 @@ pub mod Canons
 pub mod Replays
 pub mod Pcaps
 pub mod Surroundings
+pub mod Collects
+pub mod Sends
 pub mod Performances
 pub mod Headlines
 pub use Rattle.byte_ends.specs.Seen

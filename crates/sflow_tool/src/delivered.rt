@@ -14,11 +14,12 @@ ghost use Rattle.account_spec.specs.Premises.{Premises};
 ghost use Rattle.account_spec.specs.Rows.{usual};
 ghost use Rattle.delivered_items.specs.Accepted.{AreAccepted};
 ghost use Rattle.delivered_items.specs.WholeRows.{whole_history, whole_deliveries};
-ghost use Rattle.sample_taps.specs.Classes.{no_classes};
+ghost use Rattle.delivered_items.specs.AccountHeaders.{account_classes};
 ghost use Rattle.report_lines.specs.HeaderLines.{no_taps};
 ghost use Rattle.report_lines.specs.InterfaceLines.{report_with};
 ghost use Rattle.sflow_tool.specs.Headlines.{IsDelivered};
 
+use delivered_items::header_rows::whole_classes_row;
 use delivered_items::laws::what_was_sent_is_read;
 use delivered_items::whole::{
     whole_account_row, whole_deliveries_row, whole_history_row, whole_premises_row,
@@ -52,7 +53,7 @@ pub fn what_is_asked_is_met()
 
 /// The report of it is that of the account; each of its seven flow samples that count has a header of no byte.
 pub fn what_is_reported()
-    ensures { report_with false (account usual whole_history whole_deliveries) (record no_classes { short = 7 }) no_taps
+    ensures { report_with false (account usual whole_history whole_deliveries) (account_classes usual whole_deliveries) no_taps
         ≡ codes "stream 1 agent 10.0.0.1 sub 0 boots 2 issued 7 received 6 pending 0 lost 1 repeated 1 late 0 stale 1\n"
         ++ codes "source 1 flow 0:5 generations 3 issued 8 received 7 pending 0 lost 1 repeated 0 late 0 stale 0 pool 6 drops 1 rate 1\n"
         ++ codes "source 1 counters 0:5 generations 1 issued 2 received 2 pending 0 lost 0 repeated 0 late 0 stale 0\n"
@@ -60,4 +61,5 @@ pub fn what_is_reported()
         ++ codes "total entries 8 malformed 0 unlisted 0 unlisted_samples 0 other 0 taps_ended 0\n" }
 {
     whole_account_row();
+    whole_classes_row();
 }

@@ -3,6 +3,7 @@
 
 mod canon;
 mod check;
+mod collect;
 mod delivered;
 mod faults;
 mod interfaces;
@@ -10,6 +11,7 @@ mod laws;
 mod pcap;
 mod replay;
 mod report;
+mod send;
 mod show;
 mod top;
 

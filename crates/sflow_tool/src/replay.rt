@@ -24,7 +24,7 @@ ghost use Rattle.sflow_tool.specs.Replays.{Collects, HasTakeCause, LeavesAtEnd, 
 use crate::report::put_report;
 use command_runs::{Status, flush, new_room, status_of};
 use datagram_core::Datagram;
-use flow_collector::{Collector, Limits, OpenRefusal, Seeds};
+use flow_collector::{Collector, Limits, Seeds};
 use sample_taps::{Tap, Taps};
 use sflow_io::{CaptureReader, Next, ReadRefusal, Sink, Source};
 use std::alloc::Global;
@@ -51,10 +51,8 @@ pub(crate) fn replay<S: Source, K: Sink>(
         (S.seen source.old) (S.seen source.new) result }
     ensures ended { taps.new.ended + vec_len taps.new.held ≡ taps.old.ended + vec_len taps.old.held }
 {
-    let mut collector = match Collector::open(alloc, limits, seeds) {
-        Ok(collector) => collector,
-        Err(OpenRefusal::Memory) => return Status::Memory,
-        Err(OpenRefusal::BadLimit { .. }) => unreachable!(),
+    let Ok(mut collector) = Collector::open_within(alloc, limits, seeds) else {
+        return Status::Memory;
     };
     let Ok(mut reader) = CaptureReader::open(alloc) else {
         return Status::Memory;
@@ -70,7 +68,7 @@ pub(crate) fn replay<S: Source, K: Sink>(
 }
 
 // Puts the report, and ends the run.
-fn finish<K: Sink>(
+pub(crate) fn finish<K: Sink>(
     page: &mut Page,
     sink: &mut K,
     collector: &Collector,
@@ -124,7 +122,7 @@ fn take_entries<S: Source>(
 }
 
 // Takes an entry, a datagram or none, whatever its padding is.
-fn take_entry(collector: &mut Collector, at: u64, bytes: &[u8], taps: &mut Taps)
+pub(crate) fn take_entry(collector: &mut Collector, at: u64, bytes: &[u8], taps: &mut Taps)
     requires { taps.old.ended + vec_len taps.old.held < 2 ^ 64 }
     ensures gathers { (l : Limits) (items : List HeaderedItem) (xs : _) → length items < most_entries
         → Gathered (λ x b y. (v : _) × (y ≡ record x { value = v }) × (⟦<dyn Tap as Tap>⟧ x.vtable).step x.value b v)

@@ -1,4 +1,4 @@
-ghost use Rattle.std.specs.Prelude.{◌≡◌, ◌+◌, ◌<◌, ◌^◌, ◌⊎◌, ◌↔◌, ℕ, Bool, List, None, Some, map, string_bytes, vec_len};
+ghost use Rattle.std.specs.Prelude.{◌≡◌, ◌+◌, ◌<◌, ◌^◌, ◌⊎◌, ◌↔◌, ℕ, Bool, List, None, Some, map, take, string_bytes, vec_len};
 ghost use Rattle.byte_ends.specs.Seen.{Rose, Takes};
 ghost use Rattle.wire_spec.specs.Bytes.{AreBytes};
 ghost use Rattle.account_spec.specs.Histories.{SubAgent};
@@ -6,21 +6,24 @@ ghost use Rattle.account_spec.specs.Deliveries.{Delivery};
 ghost use Rattle.account_spec.specs.Accounts.{account};
 ghost use Rattle.report_lines.specs.HeaderLines.{shown_taps};
 ghost use Rattle.report_lines.specs.InterfaceLines.{report_with};
-ghost use Rattle.sflow_tool.specs.Headlines.{IsDelivered};
-ghost use Rattle.books_spec.specs.Limits.{AreLawful};
+ghost use Rattle.datagram_links.specs.Links.{LinkTold, datagrams_in};
+ghost use Rattle.command_words.specs.declared.collection.Collection.{Collection};
+ghost use Rattle.sflow_tool.specs.Headlines.{IsCollected, IsDelivered};
 ghost use Rattle.books_spec.specs.declared.limits.Limits.{Limits};
-ghost use Rattle.command_words.specs.Commands.{command_of};
+ghost use Rattle.command_words.specs.Commands.{HasLawfulLimits, command_of};
 ghost use Rattle.sflow_tool.specs.Surroundings.{surroundings};
-ghost use Rattle.command_runs.specs.Outside.{outside};
 ghost use Rattle.sflow_tool.specs.Performances.{EndsBy, IsFed, Performs};
-ghost use Rattle.sflow_tool.specs.Replays.{classes_in};
+ghost use Rattle.sample_taps.specs.Feeding.{Held};
+ghost use Rattle.delivered_items.specs.AccountHeaders.{account_briefs, account_classes};
 ghost use Rattle.command_words.specs.declared.command.Command.{Command};
 ghost use Rattle.command_runs.specs.declared.status.Status.{Status as Ending};
 
 use crate::canon::canon;
 use crate::check::check;
+use crate::collect::collect;
 use crate::pcap::pcap;
 use crate::replay::replay;
+use crate::send::send;
 use crate::show::show;
 use command_runs::Status;
 use command_words::{Command as Asked, WordsRefusal, read_words};
@@ -30,8 +33,7 @@ use sample_taps::{Tap, Taps};
 use sflow_io::{Sink, Source};
 use std::alloc::Global;
 
-/// Does what the words say, from the source to the sink. The words are without the program's name. No command uses the link
-/// yet.
+/// Does what the words say, from the source to the sink or over the link. The words are without the program's name.
 ///
 /// `replay` reads a capture and writes its report: a line for each stream and each source, the line of the classes of sampled
 /// headers, that of each consumer, one for the first entry that is no datagram, and the line of totals. The consumers, `taps`,
@@ -48,7 +50,13 @@ use std::alloc::Global;
 /// collector's port 6343, with the arrival of its packet and the sender. Where the file breaks off, so does the capture,
 /// without its end item, and nothing is written where no payload was taken. `--count` asks for one line in its place,
 /// which counts the packets by what became of them.
-/// All memory is taken before the first byte is read or written.
+/// `collect` listens at a place, makes `--turns` receives and writes the report of the datagrams that came, as `replay`
+/// does of a capture's entries; a receive that gives nothing for a while counts as well. `--listen` names the place, and
+/// else it is port 6343 of all addresses; limits, `--interfaces` and consumers are as for `replay`.
+/// `send` reads a capture, sends the bytes of each entry to the place that `--to` names, and else to port 6343 of this
+/// machine, and then writes how many it sent. No other command uses the link; one call of it that fails ends the run with
+/// `LinkFault`, and then nothing is written.
+/// All memory is taken before the first byte is read or written, and before the link is used.
 pub fn run<S: Source, K: Sink, L: Link>(
     alloc: Global,
     words: &[String],
@@ -75,19 +83,51 @@ pub fn run<S: Source, K: Sink, L: Link>(
     // The consumers that are held are those that the briefs of the run leave, and the others were counted.
     ensures fed { (c : Command) → command_of (map string_bytes words.now) ≡ Some c
         → IsFed (λ x b y. (v : _) × (y ≡ record x { value = v }) × (⟦<dyn Tap as Tap>⟧ x.vtable).step x.value b v)
-        (λ x. (⟦<dyn Tap as Tap>⟧ x.vtable).ended x.value) c (outside (S.seen source.old) (K.seen sink.old))
-        (outside (S.seen source.new) (K.seen sink.new)) result taps.old.held.items taps.new.held.items }
+        (λ x. (⟦<dyn Tap as Tap>⟧ x.vtable).ended x.value) c (surroundings (S.seen source.old) (K.seen sink.old) (L.seen link.old)
+        (shown_taps (λ x. (⟦<dyn Tap as Tap>⟧ x.vtable).text x.value) taps.old.held.items taps.old.ended))
+        (surroundings (S.seen source.new) (K.seen sink.new) (L.seen link.new)
+        (shown_taps (λ x. (⟦<dyn Tap as Tap>⟧ x.vtable).text x.value) taps.new.held.items taps.new.ended)) result
+        taps.old.held.items taps.new.held.items }
     ensures ended { taps.new.ended + vec_len taps.new.held ≡ taps.old.ended + vec_len taps.old.held }
 
     // Where a capture delivers what agents sent and the premises hold, a report that is written is that of their account.
     ensures headline { (limits : Limits) (interfaces : Bool) (history : List SubAgent) (deliveries : List Delivery)
         (input : List ℕ)
         → command_of (map string_bytes words.now) ≡ Some (Command.Replay limits interfaces)
-        → AreBytes input → (S.seen source.old).told ≡ Some input → (d : IsDelivered limits history deliveries input)
+        → AreBytes input → (S.seen source.old).told ≡ Some input → IsDelivered limits history deliveries input
         → result ≡ Status.Done
         → Takes (K.seen sink.old) (K.seen sink.new) (report_with interfaces (account limits history deliveries)
-        (classes_in limits d.capture.received)
+        (account_classes limits deliveries)
         (shown_taps (λ x. (⟦<dyn Tap as Tap>⟧ x.vtable).text x.value) taps.new.held.items taps.new.ended)) }
+
+    // The consumers that are held then are those that the briefs of the account leave.
+    ensures headline_briefs { (limits : Limits) (interfaces : Bool) (history : List SubAgent) (deliveries : List Delivery)
+        (input : List ℕ)
+        → command_of (map string_bytes words.now) ≡ Some (Command.Replay limits interfaces)
+        → AreBytes input → (S.seen source.old).told ≡ Some input → IsDelivered limits history deliveries input
+        → result ≡ Status.Done
+        → Held (λ x b y. (v : _) × (y ≡ record x { value = v }) × (⟦<dyn Tap as Tap>⟧ x.vtable).step x.value b v)
+        (λ x. (⟦<dyn Tap as Tap>⟧ x.vtable).ended x.value) (account_briefs limits deliveries)
+        taps.old.held.items taps.new.held.items }
+
+    // The same of what comes over a link.
+    ensures collected { (asked : Collection) (history : List SubAgent) (deliveries : List Delivery) (told : LinkTold)
+        → command_of (map string_bytes words.now) ≡ Some (Command.Collect asked)
+        → (L.seen link.old).told ≡ Some told
+        → IsCollected asked.limits history deliveries (datagrams_in 65535 (take asked.turns told.items))
+        → result ≡ Status.Done
+        → Takes (K.seen sink.old) (K.seen sink.new) (report_with asked.interfaces (account asked.limits history deliveries)
+        (account_classes asked.limits deliveries)
+        (shown_taps (λ x. (⟦<dyn Tap as Tap>⟧ x.vtable).text x.value) taps.new.held.items taps.new.ended)) }
+
+    ensures collected_briefs { (asked : Collection) (history : List SubAgent) (deliveries : List Delivery) (told : LinkTold)
+        → command_of (map string_bytes words.now) ≡ Some (Command.Collect asked)
+        → (L.seen link.old).told ≡ Some told
+        → IsCollected asked.limits history deliveries (datagrams_in 65535 (take asked.turns told.items))
+        → result ≡ Status.Done
+        → Held (λ x b y. (v : _) × (y ≡ record x { value = v }) × (⟦<dyn Tap as Tap>⟧ x.vtable).step x.value b v)
+        (λ x. (⟦<dyn Tap as Tap>⟧ x.vtable).ended x.value) (account_briefs asked.limits deliveries)
+        taps.old.held.items taps.new.held.items }
 
     // Where no count of faults rose, the input alone decides, but for want of memory.
     ensures complete { (c : Command) (input : List ℕ) (ending : Ending)
@@ -97,6 +137,12 @@ pub fn run<S: Source, K: Sink, L: Link>(
         → ¬ Rose (K.seen sink.old).faults (K.seen sink.new).faults
         → ¬ Rose (L.seen link.old).faults (L.seen link.new).faults
         → (result ≡ ending) ⊎ (result ≡ Status.Memory) }
+
+    // What comes over a link and what doesn't come leave a collection its work, whatever the source is.
+    ensures all_turns { (asked : Collection) → command_of (map string_bytes words.now) ≡ Some (Command.Collect asked)
+        → ¬ Rose (K.seen sink.old).faults (K.seen sink.new).faults
+        → ¬ Rose (L.seen link.old).faults (L.seen link.new).faults
+        → (result ≡ Status.Done) ⊎ (result ≡ Status.Memory) }
 {
     match read_words(alloc, words) {
         Ok(command) => perform(alloc, command, seeds, source, sink, link, taps),
@@ -108,22 +154,26 @@ pub fn run<S: Source, K: Sink, L: Link>(
 // Does what the command says.
 fn perform<S: Source, K: Sink, L: Link>(
     alloc: Global,
-    command: Asked,
+    command: Asked<'_>,
     seeds: Seeds,
     source: &mut S,
     sink: &mut K,
     link: &mut L,
     taps: &mut Taps,
 ) -> Status
-    requires lawful { (limits : Limits) (interfaces : Bool) → command ≡ Asked.Replay limits interfaces → AreLawful limits }
+    requires lawful { HasLawfulLimits command }
     requires few { taps.old.ended + vec_len taps.old.held < 2 ^ 64 }
-    ensures runs { Performs command (surroundings (S.seen source.old) (K.seen sink.old) (L.seen link.old)
+    ensures runs { Performs command.entry (surroundings (S.seen source.old) (K.seen sink.old) (L.seen link.old)
         (shown_taps (λ x. (⟦<dyn Tap as Tap>⟧ x.vtable).text x.value) taps.old.held.items taps.old.ended))
         (surroundings (S.seen source.new) (K.seen sink.new) (L.seen link.new)
         (shown_taps (λ x. (⟦<dyn Tap as Tap>⟧ x.vtable).text x.value) taps.new.held.items taps.new.ended)) result }
     ensures fed { IsFed (λ x b y. (v : _) × (y ≡ record x { value = v }) × (⟦<dyn Tap as Tap>⟧ x.vtable).step x.value b v)
-        (λ x. (⟦<dyn Tap as Tap>⟧ x.vtable).ended x.value) command (outside (S.seen source.old) (K.seen sink.old))
-        (outside (S.seen source.new) (K.seen sink.new)) result taps.old.held.items taps.new.held.items }
+        (λ x. (⟦<dyn Tap as Tap>⟧ x.vtable).ended x.value) command.entry
+        (surroundings (S.seen source.old) (K.seen sink.old) (L.seen link.old)
+        (shown_taps (λ x. (⟦<dyn Tap as Tap>⟧ x.vtable).text x.value) taps.old.held.items taps.old.ended))
+        (surroundings (S.seen source.new) (K.seen sink.new) (L.seen link.new)
+        (shown_taps (λ x. (⟦<dyn Tap as Tap>⟧ x.vtable).text x.value) taps.new.held.items taps.new.ended)) result
+        taps.old.held.items taps.new.held.items }
     ensures ended { taps.new.ended + vec_len taps.new.held ≡ taps.old.ended + vec_len taps.old.held }
 {
     match command {
@@ -134,5 +184,7 @@ fn perform<S: Source, K: Sink, L: Link>(
         Asked::Check { pad } => check(alloc, pad, source, sink),
         Asked::Canon { version } => canon(alloc, version, source, sink),
         Asked::Pcap { output } => pcap(alloc, output, source, sink),
+        Asked::Collect { asked } => collect(alloc, &asked, seeds, sink, link, taps),
+        Asked::Send { to } => send(alloc, to.text(), source, sink, link),
     }
 }

@@ -11,17 +11,17 @@ pub take_entries-requires-clause-stands : goal.take_entries-requires-clause-stan
 take_entries-requires-clause-stands g c =
     subst (λ (l : Limits). StandsFor c.in-Ok.collector.books l []) (sym c.in-Ok.ensures.stands.limits_are) c.in-Ok.ensures.stands
 
-pub returns-in-Err-Memory-clause-runs : goal.returns-in-Err-Memory-clause-runs
-returns-in-Err-Memory-clause-runs g c = lacks_between _ _ _
-
-pub returns-in-Err-Memory-clause-fed : goal.returns-in-Err-Memory-clause-fed
-returns-in-Err-Memory-clause-fed g c = none_visited _ _ _ refl
-
 pub returns-in_default-clause-runs : goal.returns-in_default-clause-runs
 returns-in_default-clause-runs g c = lacks_between _ _ _
 
 pub returns-in_default-clause-fed : goal.returns-in_default-clause-fed
 returns-in_default-clause-fed g c = none_visited _ _ _ refl
+
+pub returns-in_default-open-clause-runs : goal.returns-in_default-open-clause-runs
+returns-in_default-open-clause-runs g c = lacks_between _ _ _
+
+pub returns-in_default-open-clause-fed : goal.returns-in_default-open-clause-fed
+returns-in_default-open-clause-fed g c = none_visited _ _ _ refl
 
 pub returns-in_default-new_room-clause-runs : goal.returns-in_default-new_room-clause-runs
 returns-in_default-new_room-clause-runs g c = lacks_between _ _ _

@@ -1,5 +1,5 @@
-use Rattle.command_words.specs.declared.command.Command.TheVariants.{Replay, Show, Check, Canon, Pcap}
-use Rattle.sflow_tool.proofs.Performed.{between, collecting, fed_as, fed_read, of_this, unfed_canon, unfed_check, unfed_pcap, unfed_show}
+use Rattle.command_words.specs.declared.command.Command.TheVariants.{Replay, Show, Check, Canon, Pcap, Collect, Send}
+use Rattle.sflow_tool.proofs.Performed.{between, collecting, fed_as, fed_come, fed_read, of_this, sends_as, unfed_canon, unfed_check, unfed_pcap, unfed_send, unfed_show}
 use Rattle.sflow_tool.proofs.top.perform.Goals as goal
 
 pub returns-in-Replay-clause-runs : goal.returns-in-Replay-clause-runs
@@ -38,3 +38,18 @@ returns-in-Pcap-clause-runs g c = of_this (Pcap c.in-Pcap.output) c.args.command
 pub returns-in-Pcap-clause-fed : goal.returns-in-Pcap-clause-fed
 returns-in-Pcap-clause-fed g c =
     fed_as _ _ _ _ _ _ _ (Pcap c.in-Pcap.output) c.args.command c.in-Pcap.is (unfed_pcap _ _ _ _ _ _ _)
+
+pub returns-in-Collect-clause-runs : goal.returns-in-Collect-clause-runs
+returns-in-Collect-clause-runs g c = of_this (Collect c.in-Collect.asked) c.args.command _ _ _ c.in-Collect.is (c.collect.ensures.runs _)
+
+pub returns-in-Collect-clause-fed : goal.returns-in-Collect-clause-fed
+returns-in-Collect-clause-fed g c =
+    fed_as _ _ _ _ _ _ _ (Collect c.in-Collect.asked) c.args.command c.in-Collect.is
+    (fed_come _ _ _ _ _ _ _ c.in-Collect.asked c.collect.ensures.fed)
+
+pub returns-in-Send-clause-runs : goal.returns-in-Send-clause-runs
+returns-in-Send-clause-runs g c = of_this (Send c.in-Send.to) c.args.command _ _ _ c.in-Send.is (sends_as c.in-Send.to _ _ _ _ c.text.ensures (c.send.ensures _))
+
+pub returns-in-Send-clause-fed : goal.returns-in-Send-clause-fed
+returns-in-Send-clause-fed g c =
+    fed_as _ _ _ _ _ _ _ (Send c.in-Send.to) c.args.command c.in-Send.is (unfed_send _ _ _ _ _ _ _)
