@@ -59,6 +59,14 @@ fn told(alloc: Global, read: &Result<Command<'_>, WordsRefusal>) -> Result<Strin
     }
 }
 
+fn words_of(alloc: Global, texts: &[&str]) -> Result<Vec<String>, AllocError> {
+    let mut words = Vec::new(alloc);
+    for text in texts {
+        words.push(String::from_str(alloc, text)?)?;
+    }
+    Ok(words)
+}
+
 // With ample memory each list of words has its reading.
 #[test]
 fn words_have_their_readings(rt: HostRuntime) -> Result<(), Fail> {
@@ -151,11 +159,7 @@ fn words_have_their_readings(rt: HostRuntime) -> Result<(), Fail> {
         (&["send", "--listen=a:1"], "usage"),
     ];
     for (texts, want) in cases {
-        assert!(rt; texts.len() < 16);
-        let mut words = Vec::new(rt.alloc());
-        for text in texts {
-            words.push(String::from_str(rt.alloc(), text)?)?;
-        }
+        let words = words_of(rt.alloc(), texts)?;
         let read = told(rt.alloc(), &read_words(rt.alloc(), &words))?;
         assert_eq!(rt; read.as_str(), want, "{texts:?}");
     }
