@@ -7,3 +7,4 @@ mod Lining
 pub mod Happens
 pub mod Lawful
 mod Nexts
+pub mod SoFar

@@ -1,3 +1,4 @@
 pub mod Written
 pub mod Lawful
 pub mod Given
+pub mod SoFar

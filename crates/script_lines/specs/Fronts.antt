@@ -5,6 +5,8 @@ use Rattle.std.specs.Io.KnownBytes.{Consumes, IsAtEnd}
 use Rattle.byte_ends.specs.Seen.{Seen, next_count}
 use Rattle.byte_ends.specs.Unread.{StopsWithin}
 use Rattle.script_spec.specs.Words.{Text}
+use Rattle.script_spec.specs.Lines.{Line}
+use Rattle.script_spec.specs.Forms.{line_in}
 use Rattle.script_spec.specs.Texts.{Shape, Skipped, Heading, Says, Shapeless, shape_of, texts_in}
 use Rattle.script_lines.specs.Shown.{shown}
 use Rattle.script_lines.specs.declared.text.Front.{Front}
@@ -119,3 +121,20 @@ LeadsOn number (Ok (step.Says line)) = number ≤ 4294967295
 LeadsOn number (Ok step.Shapeless) = ⊤
 LeadsOn number (Ok step.End) = ⊤
 LeadsOn number (Err e) = ⊤
+
+-- ---- what a line says, whether the source tells its bytes or not
+
+-- some text says the line
+abbrev pub IsSaid : Line → Type 0
+IsSaid line = (text : Text) × (line_in text ≡ Some line)
+
+abbrev pub SaysLine : Step → Type 0
+SaysLine step.Skipped = ⊤
+SaysLine step.Heading = ⊤
+SaysLine (step.Says line) = IsSaid (shown line)
+SaysLine step.Shapeless = ⊤
+SaysLine step.End = ⊤
+
+abbrev pub StepSays : {E : Type 0} → Result Step E → Type 0
+StepSays (Ok s) = SaysLine s
+StepSays (Err e) = ⊤

@@ -1,5 +1,5 @@
 -- What a reader of a script answers, by what is left to read.
-use Rattle.std.specs.Prelude.{◌≡◌, ⊤, ℕ, true, false, List, [], ◌++◌, Option, Some, None, Result, Ok, Err}
+use Rattle.std.specs.Prelude.{◌≡◌, ◌<◌, ◌≤◌, ⊤, ℕ, true, false, List, [], ◌++◌, Option, Some, None, Result, Ok, Err}
 use Rattle.std.specs.Io.KnownBytes.{IsAtEnd}
 use Rattle.wire_spec.specs.declared.input_kind.InputKind.TheVariants.{Script}
 use Rattle.byte_ends.specs.Seen.{Seen, next_count}
@@ -8,7 +8,7 @@ use Rattle.sflow_io.specs.declared.capture.ReadRefusal.TheVariants as refusal
 use Rattle.script_spec.specs.Texts.{texts_in}
 use Rattle.script_spec.specs.Steps.{Gives, Ends, Fails, next_in}
 use Rattle.script_lines.specs.Shown.{shown}
-use Rattle.script_lines.specs.Fronts.{IsInLine}
+use Rattle.script_lines.specs.Fronts.{IsInLine, IsSaid}
 use Rattle.script_lines.specs.declared.line.ScriptLine.{ScriptLine}
 use Rattle.script_lines.specs.declared.place.Place.{Place}
 
@@ -65,6 +65,12 @@ HasCause old new (Ok line) = new.faults ≡ old.faults
 HasCause old new (Err (refusal.BadInput at kind)) = new.faults ≡ old.faults
 HasCause old new (Err refusal.ReadFault) = new.faults ≡ next_count old.faults
 HasCause old new (Err refusal.Spent) = ⊥
+
+-- a line that is given is what some text says, and has a number of 32 bits above those of the lines before it
+abbrev pub GivesNext : Place → Place → Answer → Type 0
+GivesNext old new (Ok (Some line)) = IsSaid (shown line) × (old.count < new.count) × (new.count ≤ 4294967295)
+GivesNext old new (Ok None) = ⊤
+GivesNext old new (Err e) = ⊤
 
 -- behind the end the source has nothing left
 abbrev pub EndsAll : Option (List ℕ) → Answer → Type 0

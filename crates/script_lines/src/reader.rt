@@ -5,7 +5,7 @@ ghost use Rattle.sflow_io.specs.declared.capture.ReadRefusal.TheVariants.{BadInp
 ghost use Rattle.script_lines.specs.declared.place.Place.{Place as PlaceIn};
 ghost use Rattle.byte_ends.specs.Unread.{unread};
 ghost use Rattle.sflow_io.specs.declared.capture.ReadRefusal.{ReadRefusal};
-ghost use Rattle.script_lines.specs.Readers.{EndsAll, HasCause, IsFresh, Tells, ended_by, given_by, last_answer};
+ghost use Rattle.script_lines.specs.Readers.{EndsAll, GivesNext, HasCause, IsFresh, Tells, ended_by, given_by, last_answer};
 
 use crate::place::Place;
 use crate::step::{Step, read_step};
@@ -85,6 +85,9 @@ impl ScriptReader {
         ensures given { self.new.given ≡ given_by self.old.given self.new.place result }
         ensures at_end { self.old.ended ≡ None → EndsAll (S.seen source.new).told result }
 
+        // A line has its shape, whether the source tells its bytes or not.
+        ensures next { self.old.ended ≡ None → GivesNext self.old.place self.new.place result }
+
         // The last answer comes again.
         ensures again { (last : Result (Unit {0}) ReadRefusal) → self.old.ended ≡ Some last → result ≡ last_answer last }
         ensures unmoved { (last : Result (Unit {0}) ReadRefusal) → self.old.ended ≡ Some last
@@ -154,6 +157,7 @@ fn read_line<S: Source>(
         → Tells place.old place.new bytes (unread ahead.new (S.seen source.new)) (S.seen source.new).told result }
     ensures count { place.new.count ≤ 4294967295 }
     ensures at_end { EndsAll (S.seen source.new).told result }
+    ensures next { GivesNext place.old place.new result }
     ensures cause { HasCause (S.seen source.old) (S.seen source.new) result }
 {
     'lines: loop {

@@ -2,7 +2,7 @@
 ghost use Rattle.std.specs.Prelude.{◌≡◌, ◌≤◌, ℕ, List, Some, length};
 ghost use Rattle.byte_ends.specs.Unread.{unread};
 ghost use Rattle.script_spec.specs.Texts.{is_in_bounds as in_bounds, is_skipped as skipped, shape_of, unskipped_shape};
-ghost use Rattle.script_lines.specs.Fronts.{EndsSource, HasFaults, IsNumbered, LeadsOn, TellsStep, shape_in};
+ghost use Rattle.script_lines.specs.Fronts.{EndsSource, HasFaults, IsNumbered, LeadsOn, SaysLine, StepSays, TellsStep, shape_in};
 
 use crate::ScriptLine;
 use crate::forms::line_in;
@@ -51,6 +51,7 @@ fn is_skipped(text: &[u8]) -> bool
 fn unskipped(begun: bool, text: &[u8]) -> Step
     ensures shape { shape_in result ≡ unskipped_shape begun text.now }
     ensures bounds { (number : ℕ) → number ≤ 4294967295 → IsNumbered number result }
+    ensures said { SaysLine result }
 {
     if begun {
         match line_in(text) {
@@ -69,6 +70,7 @@ fn unskipped(begun: bool, text: &[u8]) -> Step
 fn classify(begun: bool, number: u64, text: &[u8]) -> Step
     ensures shape { shape_in result ≡ shape_of begun number text.now }
     ensures bounds { IsNumbered number result }
+    ensures said { SaysLine result }
 {
     if !is_in_bounds(number, text) {
         Step::Shapeless
@@ -91,6 +93,7 @@ pub(crate) fn read_step<S: Source>(
     ensures told { (bytes : List ℕ) → unread ahead.old (S.seen source.old) ≡ Some bytes
         → TellsStep begun number bytes (unread ahead.new (S.seen source.new)) (S.seen source.new).told result }
     ensures leads_on { LeadsOn number result }
+    ensures said { StepSays result }
     ensures at_end { EndsSource (S.seen source.new).told result }
     ensures faults { HasFaults (S.seen source.old) (S.seen source.new) result }
 {

@@ -63,7 +63,7 @@ polled_sent now before (c ∷ due) (reading ∷ more) b =
 abbrev KeepsSent : Setup → List Event → Event → Type 0
 KeepsSent setup events e = (happened setup (e ∷ events)).sent ≡ (happened setup events).sent
 
-quiet_event : (setup : Setup) (id : ℕ) (events : List Event) (line : Line) (e : Event) → is_quiet line ≡ true
+pub quiet_event : (setup : Setup) (id : ℕ) (events : List Event) (line : Line) (e : Event) → is_quiet line ≡ true
     → event_of setup id events line ≡ Some e → KeepsSent setup events e
 unfolding poll_at
 quiet_event setup id events (PacketLine p k) e quiet made = go (flow_of setup p) made

@@ -6,8 +6,8 @@ use Rattle.script_spec.specs.Sent.{sent_count}
 use Rattle.std.specs.Option.{option_map_or}
 use Rattle.data_format.specs.declared.source.SourceId.{SourceId}
 use Rattle.agent_spec.specs.Sources.{same_source, same_kind}
-use Rattle.script_spec.specs.Lines.{Line, PacketLine, PollLine, ResetLine, DeliverLine, SubAgent}
-use Rattle.script_spec.specs.Agents.{Owned, AgentBoot, subs_in, sources_in, boots_of, datagrams_of, numbered}
+use Rattle.script_spec.specs.Lines.{Line, PacketLine, PollLine, SendLine, RestartLine, ResetLine, DeliverLine, SubAgent}
+use Rattle.script_spec.specs.Agents.{Owned, AgentBoot, begun_at, subs_in, sources_in, boots_of, datagrams_of, numbered}
 use Rattle.script_spec.specs.Rules.{sets_up, is_max, is_in_the_way}
 use Rattle.script_tables.specs.Said.{source_said}
 use Rattle.script_tables.specs.declared.rows.SourceRow.{SourceRow}
@@ -87,6 +87,33 @@ abbrev pub sub_sent : ℕ → ℕ → ℕ → List SubRow → Bool
 sub_sent id boot number [] = false
 sub_sent id boot number (s ∷ more) =
     cond (s.id == id) (boots_sent (map boot_said s.boots.items) boot number) (sub_sent id boot number more)
+
+-- ---- the newest boots
+
+-- the newest boot of a sub-agent, whose boots have the latest first
+abbrev pub newest : List AgentBoot → AgentBoot
+newest [] = begun_at 0
+newest (b ∷ earlier) = b
+
+-- a sub-agent of this ID stands at this place of those of the lines, and its newest boot arrives at this time, in ms
+pub record StandsAt (lines : List Line) (id place at : ℕ) : Type 0 where
+  pub sub : SubAgent
+  pub there : slice_get (reverse (subs_in lines)) place ≡ Some sub
+  pub own : sub.id ≡ id
+  pub at_is : (newest (boots_of lines sub)).at ≡ at
+
+-- the line is one in which the sub-agent of this ID polls, sends or restarts
+abbrev pub is_act_of : ℕ → Line → Bool
+is_act_of id (PollLine owner now) = owner == id
+is_act_of id (SendLine owner now) = owner == id
+is_act_of id (RestartLine owner at) = owner == id
+is_act_of id other = false
+
+-- when the last of these boots arrives
+abbrev pub last_time : List BootCount → ℕ
+last_time [] = 0
+last_time (b ∷ []) = b.at
+last_time (b ∷ next ∷ more) = last_time (next ∷ more)
 
 -- ---- how they go on
 

@@ -1,13 +1,14 @@
 // The tables of a script go on with a further line.
-ghost use Rattle.std.specs.Prelude.{◌≡◌, ◌<◌, ◌++◌, [], ◌∷◌, true, false, Bool, ℕ, List, length, map, slice_get, Some, IfSome, IfNone, IfOk, OnOk, OnErr};
+ghost use Rattle.std.specs.Prelude.{◌≡◌, ◌<◌, ◌++◌, [], ◌∷◌, true, false, Bool, ℕ, List, length, map, slice_get, is_some, Some, IfSome, IfNone, IfOk, OnOk, OnErr};
 ghost use Rattle.agent_spec.specs.Sources.{FlowSetup as FlowSaid, CounterSetup as CounterSaid};
 ghost use Rattle.script_spec.specs.Lines.{Line, MaxLine, SubLine, FlowLine, CounterLine, SendLine, RestartLine, SubAgent as SubSaid};
 ghost use Rattle.script_laws.specs.Lawful.{AreLawful};
+ghost use Rattle.script_spec.specs.Rules.{may_follow};
 ghost use Rattle.script_tables.specs.declared.rows.SubRow.{SubRow as Row};
 ghost use Rattle.script_tables.specs.Said.{source_said};
-ghost use Rattle.script_tables.specs.Tables.{BootCount, HasSent, IsSetAt, Tells, is_quiet, knows as knows_in, row_said, sub_said, with_boot, with_sent};
+ghost use Rattle.script_tables.specs.Tables.{BootCount, HasSent, IsSetAt, StandsAt, Tells, is_act_of, is_quiet, knows as knows_in, last_time, row_said, sub_said, with_boot, with_sent};
 
-use crate::rows::{BootRow, SourceRow, SubRow};
+use crate::rows::{BootRow, SourceRow, SubPlace, SubRow};
 use crate::tables::ScriptTables;
 use data_format::SourceId;
 use std::alloc::{AllocError, Global};
@@ -28,6 +29,18 @@ impl SubRow {
         let count = self.boots.len();
         if count > 0 {
             self.boots[count - 1].sent = sent;
+        }
+    }
+
+    // When its newest boot arrives.
+    fn newest_time(&self) -> u64
+        ensures { result ≡ last_time (sub_said self.now).boots }
+    {
+        let count = self.boots.len();
+        if count > 0 {
+            self.boots[count - 1].at
+        } else {
+            0
         }
     }
 }
@@ -71,7 +84,38 @@ fn set_sent_at(subs: &mut [SubRow], place: usize, sent: u64)
     subs[place].set_sent(sent);
 }
 
+// When the newest boot of the sub-agent at a place arrives.
+fn newest_time_at(subs: &[SubRow], place: usize) -> u64
+    requires { place < length subs.now }
+    ensures { (row : Row) → slice_get subs.now place ≡ Some row → result ≡ last_time (sub_said row).boots }
+{
+    subs[place].newest_time()
+}
+
 impl ScriptTables {
+    /// Where the sub-agent of this ID stands, and when its newest boot arrives; `None` exactly where no line may follow in
+    /// which it polls, sends or restarts.
+    pub fn find_sub(&self, id: u32) -> Option<SubPlace>
+        ensures acts { (lines : List Line) (line : Line) → Tells self.now lines → is_act_of id line ≡ true
+            → is_some result ≡ may_follow lines line }
+        ensures stands { (lines : List Line) → Tells self.now lines → IfSome result (λ s. StandsAt lines id s.place s.at) }
+    {
+        match self.place_of(id) {
+            Some(place) => Some(SubPlace {
+                place,
+                at: self.newest_time(place),
+            }),
+            None => None,
+        }
+    }
+
+    fn newest_time(&self, place: usize) -> u64
+        requires { place < length self.now.subs }
+        ensures { (row : Row) → slice_get self.now.subs place ≡ Some row → result ≡ last_time (sub_said row).boots }
+    {
+        newest_time_at(&self.subs, place)
+    }
+
     /// A line said how long a datagram is at most.
     pub fn set_max(&mut self)
         ensures { (lines : List Line) (bytes : ℕ) → AreLawful (MaxLine bytes ∷ lines) → Tells self.old lines

@@ -10,7 +10,7 @@ mod tables;
 
 pub use agent_setups::{CounterSetup, FlowSetup, Setup};
 pub use laws::{one_form, setups_are_accepted};
-pub use rows::{BootRow, SourceRow, SubRow};
+pub use rows::{BootRow, SourceRow, SubPlace, SubRow};
 pub use setups::ScriptSetups;
 pub use tables::ScriptTables;
 

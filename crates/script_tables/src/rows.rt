@@ -25,3 +25,12 @@ pub struct SubRow {
     /// Its boots, in their order.
     pub boots: Vec<BootRow>,
 }
+
+/// A sub-agent among those of the lines, and when its newest boot arrives.
+#[derive(Clone, Copy, Debug, Drop)]
+pub struct SubPlace {
+    /// How many sub-agents stand before it.
+    pub place: usize,
+    /// When its newest boot arrives, in ms.
+    pub at: u64,
+}

@@ -1,4 +1,4 @@
-use Rattle.std.proofs.Common.{◌∙◌, ◌+◌, None, ap, sym, rules}
+use Rattle.std.proofs.Common.{◌∙◌, ◌+◌, None, ap, sym, arith, rules}
 use Rattle.script_spec.specs.Texts.{texts_in, Skipped, Heading}
 use Rattle.script_spec.specs.Steps.{next_in}
 use Rattle.script_lines.specs.declared.place.Place.{Place}
@@ -41,8 +41,10 @@ lines-preserved g c =
     elim c.match-step.branch [
       | in-Skipped w ↦
           let begun = ap (λ (p : Place). p.begun) w.place-is in
+          let counted = ap (λ (p : Place). p.count) w.place-is in
           record {
             size = search rules;
+            above = omega (arith, counted, c.lines.invariant.above);
             count = rw w.in-Skipped.is at c.in-Ok.ensures.leads_on;
             kept = c.in-Ok.ensures.faults ∙ c.lines.invariant.kept;
             goes = λ bytes told.
@@ -53,8 +55,10 @@ lines-preserved g c =
           }
       | in-Heading w ↦
           let begun = ap (λ (p : Place). p.begun) w.place-is in
+          let counted = ap (λ (p : Place). p.count) w.place-is in
           record {
             size = search rules;
+            above = omega (arith, counted, c.lines.invariant.above);
             count = rw w.in-Heading.is at c.in-Ok.ensures.leads_on;
             kept = c.in-Ok.ensures.faults ∙ c.lines.invariant.kept;
             goes = λ bytes told.

@@ -1,0 +1,4 @@
+pub mod Each
+pub mod MeterLines
+pub mod SourceHomes
+pub mod MeterReads
