@@ -48,7 +48,7 @@ all-onto : (P : Sample → Type 0) (xs ys : List Sample) → AllByRecursion P (o
 all-onto P [] ys h = (tt, h)
 all-onto P (x ∷ xs) ys h = let r = all-onto P xs (x ∷ ys) h in ((r.1.0, r.0), r.1.1)
 
-by-datagram : (P : Sample → Type 0) (sent : List Datagram) → AllByRecursion P (samples_sent sent)
+pub by-datagram : (P : Sample → Type 0) (sent : List Datagram) → AllByRecursion P (samples_sent sent)
     → AllByRecursion (λ (d : Datagram). AllByRecursion P d.samples) sent
 by-datagram P [] h = tt
 by-datagram P (d ∷ before) h =

@@ -8,4 +8,7 @@ pub mod InTime
 pub mod DeliveredPlaces
 pub mod CountedHeaders
 pub mod AccountHeaders
+pub mod InTimeCounts
+pub mod HeaderCounts
+pub mod HeadersReceived
 pub mod MadeAccepted

@@ -3,12 +3,13 @@
 -- Deliveries and samples have the LATEST FIRST, but the samples of a datagram stand in its order; headers and briefs stand
 -- in order of arrival.
 use Rattle.std.specs.Prelude.{ℕ, ◌+◌, Bool, not, ◌&&◌, cond, List, [], ◌∷◌, ◌++◌, map}
-use Rattle.std.specs.List.{filter, position_or_len}
+use Rattle.std.specs.List.{filter, position_or_len, sum_by}
 use Rattle.count_spec.specs.TrueStretches.{is_past, stretch_of}
 use Rattle.books_spec.specs.declared.limits.Limits.{Limits}
 use Rattle.books_spec.specs.Items.{SourceId}
 use Rattle.books_spec.specs.Listing.{same_stream, same_id}
 use Rattle.books_spec.specs.SampledHeaders.{FirstHeader, header_from}
+use Rattle.books_spec.specs.WholeBooks.{SourceLine, WholeBooks}
 use Rattle.agent_spec.specs.Samples.{Sample}
 use Rattle.account_spec.specs.Deliveries.{Delivery, boot_of, number_of, deliveries_of, id_in, reading_shown}
 use Rattle.account_spec.specs.TrueNumbers.{is_late}
@@ -71,3 +72,9 @@ account_briefs l deliveries = map brief_in (account_headers l deliveries)
 -- how many of them are of each class
 abbrev pub account_classes : Limits → List Delivery → ClassTotals
 account_classes l deliveries = classes (map facts_in (account_briefs l deliveries))
+
+-- ---- what the lines say
+
+-- how many samples the flow sources received
+abbrev pub flow_samples_received : WholeBooks → ℕ
+flow_samples_received b = sum_by (λ (line : SourceLine). cond line.id.flow line.view.ledger.received 0) b.sources

@@ -1,6 +1,6 @@
 //! The laws. Deliveries have the latest first.
 
-ghost use Rattle.std.specs.Prelude.{◌≡◌, ◌≤◌, ℕ, List, length, map, Ok};
+ghost use Rattle.std.specs.Prelude.{◌≡◌, ◌≤◌, ◌<◌, ◌^◌, ℕ, List, length, map, Ok};
 ghost use Rattle.wire_spec.specs.declared.pad.Pad.TheVariants.{Any};
 ghost use Rattle.wire_spec.specs.Shapes.{Tree, Trees};
 ghost use Rattle.wire_spec.specs.Captures.{Entry};
@@ -14,9 +14,11 @@ ghost use Rattle.delivered_items.specs.Accepted.{AreAccepted};
 ghost use Rattle.delivered_items.specs.Readers.{IsReader, entry_item};
 ghost use Rattle.books_spec.specs.declared.limits.Limits.{Limits};
 ghost use Rattle.books_spec.specs.SampledHeaders.{SampledHeader, first_headers};
+ghost use Rattle.account_spec.specs.Accounts.{account};
 ghost use Rattle.account_spec.specs.Premises.{Premises};
 ghost use Rattle.sample_taps.specs.BookBriefs.{book_briefs, book_classes};
-ghost use Rattle.delivered_items.specs.AccountHeaders.{account_headers, account_briefs, account_classes};
+ghost use Rattle.sample_taps.specs.Classes.{headers_counted};
+ghost use Rattle.delivered_items.specs.AccountHeaders.{account_headers, account_briefs, account_classes, flow_samples_received};
 ghost use Rattle.delivered_items.specs.PacketHeaders.{headered, IsHeaderReader, headered_entry};
 ghost use Rattle.std.specs.List.{AllByRecursion};
 ghost use Rattle.trial_spec.specs.Made.{made_history};
@@ -60,6 +62,16 @@ pub fn headers_that_count_are_the_account()
         → book_briefs l (map headered deliveries) ≡ account_briefs l deliveries }
     ensures classes { (l : Limits) (history : List SubAgent) (deliveries : List Delivery) → Premises l history deliveries
         → book_classes l (map headered deliveries) ≡ account_classes l deliveries }
+{}
+
+/// Under the premises the headers that count are as many as the flow samples that are received, over all sources: each sample
+/// that came in time counts once. So the totals of the kinds of headers add up to what the lines of flow sources say.
+pub fn headers_are_as_many_as_received()
+    ensures headers { (l : Limits) (history : List SubAgent) (deliveries : List Delivery) → Premises l history deliveries
+        → length (account_headers l deliveries) ≡ flow_samples_received (account l history deliveries) }
+    ensures classes { (l : Limits) (history : List SubAgent) (deliveries : List Delivery) → Premises l history deliveries
+        → length (account_headers l deliveries) < 2 ^ 64
+        → headers_counted (account_classes l deliveries) ≡ flow_samples_received (account l history deliveries) }
 {}
 
 /// An agent's calls take what happens in a made run of at most 10,000,000 packets.
