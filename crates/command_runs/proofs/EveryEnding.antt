@@ -1,5 +1,5 @@
 -- Each input makes a run of a command over a capture end in some way.
-use Rattle.std.proofs.Common.{◌≡◌, ℕ, ◌<◌, ◌≤◌, ◌^◌, ◌⊎◌, Bool, true, false, ◌==◌, inl, inr, List, [], ◌∷◌, ◌++◌, length, take, drop, All, Ok, Err, refl, sym, ap, subst, ◌∙◌, append_assoc, arith, length-append, length-take-le, length-drop, take_at}
+use Rattle.std.proofs.Common.{◌≡◌, ℕ, ◌<◌, ◌≤◌, ◌^◌, ◌⊎◌, Bool, true, false, ◌==◌, inl, inr, List, [], ◌∷◌, ◌++◌, length, take, drop, All, Ok, Err, refl, sym, ap, subst, ◌∙◌, append_assoc, arith, length-append, length-take-le, length-drop}
 use Rattle.std.specs.Int.{w32, to_be_bytes}
 use Rattle.std.proofs.lemmas.Bool.{cases_lt, both_ways, eq-eqb, eqb-true}
 use Rattle.std.proofs.lemmas.List.Elements.{All-drop, All-head}
@@ -9,7 +9,7 @@ use Rattle.wire_spec.specs.Bytes.{AreBytes, BeginsWith}
 use Rattle.wire_spec.specs.Captures.{capture_header, magic}
 use Rattle.capture_spec.specs.declared.capture_version.CaptureVersion.{CaptureVersion}
 use Rattle.capture_spec.specs.declared.capture_version.CaptureVersion.TheVariants.{One, Two}
-use Rattle.capture_spec.specs.Items.{Received, Sender, address_bytes, address_kind, datagram_bytes, entry_of, hyper, item_by, item_front, item_head, sent_bytes, word}
+use Rattle.capture_spec.specs.Items.{Received, Sender, address_bytes, address_kind, datagram_bytes, entry_of, hyper, item_by, sent_bytes, word}
 use Rattle.capture_spec.specs.ItemReading.{received_reading, word_in}
 use Rattle.capture_spec.specs.VersionedCaptures.{IsReceived, IsReceivedOutcome, ReceivedAll, ReceivedFault, ReceivedOutcome, ReceivedThen, all_received, ending_bytes, received_bytes}
 use Rattle.capture_spec.specs.VersionedCaptures as versions

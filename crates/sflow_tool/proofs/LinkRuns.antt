@@ -14,7 +14,7 @@ use Rattle.command_runs.specs.Runs.{Ends, MayEnd}
 use Rattle.command_runs.proofs.CaptureEndings.{captures_once}
 use Rattle.sflow_tool.specs.Collects.{CollectsOver, not_listening, not_received, reported}
 use Rattle.sflow_tool.specs.Collects as collects
-use Rattle.sflow_tool.specs.Sends.{Sends, all_sent, captures_of, datagrams_of, not_aimed, not_sent, send_act}
+use Rattle.sflow_tool.specs.Sends.{Sends, all_sent, captures_of, not_aimed, not_sent, send_act}
 use Rattle.sflow_tool.specs.Sends as sends
 use Rattle.sflow_tool.specs.Surroundings.{Surroundings}
 
