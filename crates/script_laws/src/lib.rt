@@ -5,4 +5,7 @@
 
 mod laws;
 
-pub use laws::{boots_may_happen, lines_are_given, lines_are_written, scripts_are_lawful};
+pub use laws::{
+    boots_may_happen, lines_are_given, lines_are_written, scripts_are_lawful, scripts_are_read,
+    scripts_go_on,
+};

@@ -1,0 +1,2 @@
+pub mod ScriptBoots
+pub mod ScriptRuns
