@@ -39,8 +39,6 @@ fn through_a_reset_and_a_restart(rt: HostRuntime) -> Result<(), AllocError> {
     assert!(rt; premises.visible() && premises.close() && !premises.apparent());
     deliver(&mut premises, 2, 5 + (1 << 31), 500, 3, 10)?;
     assert!(rt; premises.visible() && !premises.close());
-    deliver(&mut premises, 1, 4, 99_900, 2, 2)?;
-    assert!(rt; !premises.visible());
     Ok(())
 }
 
