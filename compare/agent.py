@@ -269,9 +269,10 @@ class Agent:
         self.running = True
 
 
-def run(script):
-    """The agent behind the lines that keep the rules, and the number of the first line that breaks one, if one does."""
-    agent, begun = Agent(), False
+def run(script, agent=None):
+    """The agent, or what else takes the lines, behind those that keep the rules, and the number of the first line that breaks
+    one, if one does."""
+    agent, begun = agent or Agent(), False
     lines = script.split(b"\n")
     if lines[-1] == b"":
         lines.pop()

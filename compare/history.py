@@ -202,25 +202,7 @@ class History(agent.Agent):
 
 def read(script):
     """The history of a script, and the number of the first line that breaks a rule, if one does."""
-    history, begun = History(), False
-    lines = script.split(b"\n")
-    if lines[-1] == b"":
-        lines.pop()
-    for count, line in enumerate(lines, 1):
-        if len(line) > 16384 or count >= WORD:
-            return history, count
-        if line == b"" or line.startswith(b"#"):
-            continue
-        if not begun:
-            if line != b"sflow-script 1":
-                return history, count
-            begun = True
-            continue
-        try:
-            history.line(line.decode("latin-1"))
-        except agent.Broken:
-            return history, count
-    return history, None if begun else len(lines) + 1
+    return agent.run(script, History())
 
 
 # ---- the made run
