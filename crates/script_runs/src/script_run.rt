@@ -1,5 +1,6 @@
 // A script as it is run: what its lines set up and make the device do.
 ghost use Rattle.std.specs.Prelude.{◌≡◌, ◌<◌, ◌≤◌, ◌++◌, [], ◌∷◌, true, false, ℕ, List, length, map, OnOk, MatchResult, if◌then◌else◌, IfOk};
+ghost use Rattle.std.specs.declared.result.Result.TheVariants.{Err};
 ghost use Rattle.agent_spec.specs.Sources as spec;
 ghost use Rattle.data_format.specs.Addresses.{address_of};
 ghost use Rattle.script_spec.specs.Lines.{Line, MaxLine, SubLine, FlowLine, CounterLine, PacketLine, PollLine, SendLine, RestartLine, ResetLine, DeliverLine, SubAgent as SubSaid, Delivery, place_of};
@@ -101,11 +102,12 @@ impl ScriptRun {
     }
 
     /// Takes a further line: what it sends, if it is a line that sends. `Breaks` comes exactly where the line may not follow
-    /// those before it.
+    /// those before it, and then nothing has changed. After `Memory` the run stands for no lines, and isn't to be used.
     pub fn take(&mut self, alloc: Global, line: ScriptLine) -> Result<Option<Sent>, Unfit>
         requires sound { IsSound self.old }
-        ensures { (lines : List Line) → may_be_written (shown line) ≡ true → StandsFor self.old lines
+        ensures takes { (lines : List Line) → may_be_written (shown line) ≡ true → StandsFor self.old lines
             → TakesLine self.new lines (shown line) result }
+        ensures unchanged { result ≡ Err Unfit.Breaks → self.new ≡ self.old }
     {
         if !may_follow(&self.tables, &line) {
             return Err(Unfit::Breaks);
