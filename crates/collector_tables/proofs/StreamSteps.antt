@@ -6,7 +6,7 @@ use Rattle.count_spec.specs.Boots.{boot_place, boots}
 use Rattle.books_spec.specs.Items.{Datagram, stamp_of, Item, Got, Stream, stream_of}
 use Rattle.books_spec.specs.declared.limits.Limits.{Limits}
 use Rattle.books_spec.specs.Listing.{same_stream, among, AreDistinct, first_arrivals}
-use Rattle.books_spec.specs.Books.{streams_of, listed_streams, own, stream_boots, taken_at, taken_in, taken_now}
+use Rattle.books_spec.specs.Books.{streams_of, listed_streams, own, stream_boots, taken_in, taken_now}
 use Rattle.books_spec.specs.declared.taken.Taken.TheVariants.{Unlisted}
 use Rattle.books_spec.proofs.Listings.{symmetric, listed-known, listed-new, listed-full, listed-all, listed-distinct, first_arrivals-all}
 use Rattle.books_spec.proofs.Entered.{own-none}

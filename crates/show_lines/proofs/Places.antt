@@ -21,7 +21,7 @@ use Rattle.datagram_core.specs.declared.records.Record.{Record}
 use Rattle.datagram_core.specs.declared.records.RecordKind.{RecordKind}
 use Rattle.datagram_core.specs.declared.sample.Sample.{Sample}
 use Rattle.datagram_core.specs.declared.sample.Sample.TheVariants as samples
-use Rattle.data_format.specs.Values.{format_of, members_of, flow_head_in, counters_head_in, flow_records_in}
+use Rattle.data_format.specs.Values.{members_of, flow_head_in, counters_head_in}
 use Rattle.show_lines.specs.Lines.{datagram_line, flow_front, counters_front, frame_front}
 use Rattle.show_lines.specs.Joined.{texts_of}
 use Rattle.show_lines.specs.Shown.{record_text, flow_text, counters_text, sample_front, sample_records, sample_text, datagram_text}
