@@ -1,11 +1,11 @@
 #!/usr/bin/env bash
 # Compares `sflow check`, `sflow check --zero` and `sflow show` with a second reader of captures, and `sflow replay` with a
 # second collector, over the examples and over made captures; and `sflow pcap` with a second reader of pcap files. Compares
-# the account of made runs with that collector too, and `sflow trial`, where the program has it, with a second trial. It
-# needs python3, and is no part of the tests.
+# the account of made runs with that collector too, and `sflow trial`, where the program has it, with a second trial; and
+# `sflow agent` over made scripts, whole and broken, with a second agent. It needs python3, and is no part of the tests.
 #   compare/run.sh [SEEDS]
 # SEEDS is how many captures of 10,000 entries, how many of 4,000 datagrams sent, how many pcap files, and how many times 300
-# runs and 25 scripts are made (4).
+# runs, 25 scripts for a trial and 500 for an agent are made (4).
 set -eu
 cd "$(dirname "${BASH_SOURCE[0]}")/.."
 seeds=${1:-4}
@@ -100,6 +100,7 @@ for file in examples/*.pcap "$folder"/*.pcap; do
   packets "$file" --count
 done
 for seed in $(seq "$seeds"); do
+  python3 compare/scripts.py "$seed" 500 ./sflow || status=1
   python3 compare/trial.py --compare "$seed" 300 ./sflow || status=1
   for script in $(seq $((25 * seed - 24)) $((25 * seed))); do
     python3 compare/make_script.py "$script" > "$folder/script-$script"

@@ -10,3 +10,4 @@ pub mod CaptureEndings
 pub mod PacketWalks
 pub mod PcapEndings
 pub mod Completed
+pub mod ScriptEndings

@@ -50,7 +50,7 @@ wrote_ends g a input before after Usage ends wrote = wrote
 wrote_ends g a input before after ReadFault ends wrote = wrote
 wrote_ends g a input before after WriteFault ends wrote = absurd ends
 wrote_ends g a input before after (BadInput at kind) ends wrote = wrote
-wrote_ends g a input before after Memory ends wrote = tt
+wrote_ends g a input before after Memory ends wrote = absurd ends
 wrote_ends g a input before after LinkFault ends wrote = wrote
 wrote_ends g a input before after Spent ends wrote = wrote
 

@@ -6,8 +6,11 @@ use Rattle.capture_spec.specs.Items.{Received}
 use Rattle.sflow_io.specs.CaptureSteps.{BeginsWithEntries, FaultBehind, GoesOn, IsAllOf}
 use Rattle.sflow_io.specs.ReadFaults.{StopsBehind}
 use Rattle.capture_spec.specs.PcapFiles.{Packet}
+use Rattle.script_spec.specs.Lines.{Line}
+use Rattle.script_laws.specs.SoFar.{BeginsWithLines, IsScriptOf}
 use Rattle.pcap_file.specs.PcapFaults as pcap_faults
 use Rattle.pcap_file.specs.PcapSteps as pcap
+use Rattle.command_runs.specs.ScriptSteps.{NeverGoesOn, ScriptFaultBehind, StopsInScript}
 
 -- a form of input, of which reading gives an X
 pub record Grammar (X : Type 0) : Type 1 where
@@ -46,4 +49,14 @@ pcap_files = record {
   fault = pcap.FaultBehind;
   goes_on = pcap.GoesOn;
   stops = pcap_faults.StopsBehind;
+}
+
+-- scripts, line by line; a list of lines has the latest first
+abbrev pub scripts : Grammar (List Line)
+scripts = record {
+  begins = BeginsWithLines;
+  all = IsScriptOf;
+  fault = ScriptFaultBehind;
+  goes_on = NeverGoesOn;
+  stops = StopsInScript;
 }

@@ -1,4 +1,5 @@
 pub mod Acts
+pub mod ScriptSteps
 pub mod Grammars
 pub mod Lines
 pub mod Tasks

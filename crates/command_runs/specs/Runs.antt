@@ -1,6 +1,6 @@
 -- What a run of a command does that reads an input of this form: for each status, what it says of the input, of the sink
 -- and of the counts of faults.
-use Rattle.std.specs.Prelude.{◌≡◌, ◌≢◌, ◌⊎◌, ℕ, true, List, Some}
+use Rattle.std.specs.Prelude.{◌≡◌, ◌≢◌, ◌⊎◌, ℕ, true, List, ◌++◌, Some}
 use Rattle.std.specs.Io.KnownBytes.{IsAtEnd}
 use Rattle.wire_spec.specs.Bytes.{AreBytes}
 use Rattle.byte_ends.specs.Seen.{Takes, TakesPart, next_count}
@@ -35,9 +35,16 @@ pub data WroteBeginning {X : Type 0} (g : Grammar X) (a : Act X) (input : List �
       → TakesPart before.sink after.sink (text_at a read ending)
       → WroteBeginning g a input before after
 
+-- Memory was lacking: before a byte was read or written, or while this was read. Then no call had failed, and the sink took a
+-- beginning of what is written of it.
+pub data LacksMemory {X : Type 0} (g : Grammar X) (a : Act X) (input : List ℕ) (before after : Outside) : Type 0 where
+  lacked_first : after ≡ before → LacksMemory g a input before after
+  lacked_later : (read : X) → g.begins read input → (taken rest : List ℕ) → a.part read ≡ taken ++ rest
+      → Takes before.sink after.sink taken → LacksMemory g a input before after
+
 -- what a status says where the source told this input
 abbrev pub Ends : {X : Type 0} → Grammar X → Act X → List ℕ → Outside → Outside → Status → Type 0
-Ends g a input before after Memory = Unit {0}
+Ends g a input before after Memory = LacksMemory g a input before after
 Ends g a input before after WriteFault = WroteBeginning g a input before after
 Ends g a input before after status = Wrote g a input before after status
 

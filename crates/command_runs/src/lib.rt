@@ -13,7 +13,7 @@ mod walk;
 pub use capture::visit_capture;
 pub use capture_spec::CaptureVersion;
 pub use ending::{flush, new_room, status_of};
-pub use laws::{captures_end_once, pcap_files_end_once};
+pub use laws::{captures_end_once, pcap_files_end_once, scripts_end_once};
 pub use sflow_io::{Failed, Sender, Sink, Source};
 pub use status::{Line, Status};
 pub use text_lines::Page;

@@ -6,12 +6,13 @@ use Rattle.books_spec.specs.declared.limits.Limits.{Limits}
 use Rattle.command_words.specs.declared.arguments.CommandName.{CommandName}
 use Rattle.command_words.specs.declared.arguments.CommandName.TheVariants as name
 use Rattle.command_words.specs.declared.collection.Collection.{Collection}
-use Rattle.command_words.specs.declared.command.Command.TheVariants.{Replay, Collect}
+use Rattle.command_words.specs.declared.command.Command.TheVariants.{Replay, Collect, Relay}
 use Rattle.command_words.specs.Rules.{Text, Rule}
 use Rattle.command_words.specs.Pieces.{Piece, text_of}
 use Rattle.command_words.specs.Reading.{counted, is_counted, lawful_pieces, pieces_from}
 use Rattle.command_words.specs.Limits.{LimitTexts, limits_asked, texts_by}
-use Rattle.command_words.specs.Commands.{collection_of, collection_with, command_named, command_with, interfaces_of, limits_of, rules_of, turns_of}
+use Rattle.command_words.specs.Commands.{collection_of, collection_with, command_named, command_with, interfaces_of, limits_of, relay_of, routes_of, rules_of, turns_of}
+use Rattle.relay_out.specs.Routes.{Route}
 
 pub same_texts : {streams sources datagram_width sample_width boot_slack streams-2 sources-2 datagram_width-2 sample_width-2 boot_slack-2 : Option Text}
     → streams ≡ streams-2 → sources ≡ sources-2 → datagram_width ≡ datagram_width-2 → sample_width ≡ sample_width-2
@@ -69,6 +70,33 @@ collect_asked command words rules b is same lawful test =
     go (Some pieces) from some =
         test pieces (lawful_made rules words pieces from) ∙ with_asked (collection_of pieces)
         ∙ ap (λ o. is_some (option_and_then (command_with name.Collect) o)) (sym from)
+
+-- these and the routes make what `relay` is asked for
+pub relay_parts : (b : Bool) (r : Option (List Route)) (pieces : List Piece) → b ≡ is_some (collection_of pieces)
+    → r ≡ routes_of pieces → (b && is_some r) ≡ is_some (relay_of pieces)
+relay_parts b r pieces collects routes =
+    ap₂ (λ x o. x && is_some o) collects routes ∙ go (collection_of pieces) (routes_of pieces)
+  where
+    go : (k : Option Collection) (u : Option (List Route))
+        → (is_some k && is_some u) ≡ is_some (option_and_then (λ asked. option_map (λ routes. Relay asked routes) u) k)
+    go None u = refl
+    go (Some asked) None = refl
+    go (Some asked) (Some routes) = refl
+
+pub relay_asked : (command : CommandName) (words : List Text) (rules : List Rule) (b : Bool)
+    → command ≡ name.Relay → rules ≡ rules_of command → true ≡ is_some (lawful_pieces rules words)
+    → ((pieces : List Piece) → pieces_from rules None words ≡ Some pieces → b ≡ is_some (relay_of pieces))
+    → b ≡ is_some (command_named words command)
+relay_asked command words rules b is same lawful test =
+    go (lawful_pieces rules words) refl lawful ∙ ap (λ rs. is_some (option_and_then (command_with name.Relay) (lawful_pieces rs words))) (same ∙ ap rules_of is)
+    ∙ ap (λ n. is_some (command_named words n)) (sym is)
+  where
+    go : (o : Option (List Piece)) → lawful_pieces rules words ≡ o → true ≡ is_some o
+        → b ≡ is_some (option_and_then (command_with name.Relay) (lawful_pieces rules words))
+    go None from some = cc
+    go (Some pieces) from some =
+        test pieces (lawful_made rules words pieces from)
+        ∙ ap (λ o. is_some (option_and_then (command_with name.Relay) o)) (sym from)
 
 pub replay_asked : (command : CommandName) (words : List Text) (rules : List Rule) (texts : LimitTexts) (limits : Option Limits) (b : Bool)
     → command ≡ name.Replay → rules ≡ rules_of command → true ≡ is_some (lawful_pieces rules words)

@@ -12,3 +12,4 @@ pub mod CommandReading
 pub mod Texts
 pub mod Numerals
 pub mod Ranges
+pub mod Needed

@@ -6,14 +6,16 @@ use Rattle.books_spec.specs.declared.limits.Limits.{Limits}
 use Rattle.books_spec.specs.Limits.{AreLawful, refused_limit}
 use Rattle.command_words.specs.declared.arguments.CommandName.{CommandName}
 use Rattle.command_words.specs.declared.arguments.CommandName.TheVariants as name
+use Rattle.command_words.specs.declared.collection.Collection.{Collection}
 use Rattle.command_words.specs.declared.command.Command.{Command}
-use Rattle.command_words.specs.declared.command.Command.TheVariants.{Replay, Collect}
+use Rattle.command_words.specs.declared.command.Command.TheVariants.{Replay, Collect, Relay}
 use Rattle.command_words.specs.Rules.{Text}
 use Rattle.command_words.specs.Pieces.{Piece, text_of}
 use Rattle.command_words.specs.Limits.{LimitTexts, limits_asked, number_or, texts_by, unless_refused, with_number}
-use Rattle.command_words.specs.Commands.{HasLawfulLimits, collection_under, collection_with, command_named, command_of, command_with, interfaces_of, limits_of, name_of, turns_of}
+use Rattle.command_words.specs.Commands.{HasLawfulLimits, collection_under, collection_with, command_named, command_of, command_with, interfaces_of, limits_of, name_of, relay_under, routes_of, turns_of}
 use Rattle.command_words.specs.Reading.{lawful_pieces}
 use Rattle.command_words.specs.Commands.{rules_of}
+use Rattle.relay_out.specs.Routes.{Route}
 
 not_refused : (limits given : Limits) (o : Option ℕ) → refused_limit limits ≡ o → unless_refused o limits ≡ Some given
     → AreLawful given
@@ -64,6 +66,24 @@ with_lawful name.Check pieces c e = subst HasLawfulLimits (same_Some _ _ e) tt
 with_lawful name.Canon pieces c e = subst HasLawfulLimits (same_Some _ _ e) tt
 with_lawful name.Pcap pieces c e = subst HasLawfulLimits (same_Some _ _ e) tt
 with_lawful name.Send pieces c e = subst HasLawfulLimits (same_Some _ _ e) tt
+with_lawful name.Relay pieces c e = go (limits_of pieces) refl e
+  where
+    routed : (asked : Collection) → AreLawful asked.limits → (o : Option (List Route))
+        → option_map (λ routes. Relay asked routes) o ≡ Some c → HasLawfulLimits c
+    routed asked within None e = cc
+    routed asked within (Some routes) e = subst HasLawfulLimits (same_Some _ _ e) within
+
+    turned : (limits : Limits) → AreLawful limits → (o : Option ℕ)
+        → option_and_then (relay_under pieces) (option_map (collection_with pieces limits) o) ≡ Some c → HasLawfulLimits c
+    turned limits within None e = cc
+    turned limits within (Some turns) e = routed (collection_with pieces limits turns) within (routes_of pieces) e
+
+    go : (o : Option Limits) → limits_of pieces ≡ o
+        → option_and_then (relay_under pieces) (option_and_then (collection_under pieces) o) ≡ Some c → HasLawfulLimits c
+    go None is e = cc
+    go (Some limits) is e =
+        turned limits (asked_within (texts_by (λ name. text_of name pieces)) limits is) (turns_of pieces) e
+with_lawful name.Agent pieces c e = subst HasLawfulLimits (same_Some _ _ e) tt
 
 pub named_lawful : (words : List Text) (command : CommandName) (c : Command) → command_named words command ≡ Some c
     → HasLawfulLimits c

@@ -1,5 +1,6 @@
 -- The commands: their names, their rules, and what lawful words ask for.
-use Rattle.std.specs.Prelude.{◌≡◌, ℕ, Bool, List, [], ◌∷◌, Option, Some, None, codes, find, if◌then◌else◌, nat_lt, option_and_then, option_map}
+use Rattle.std.specs.Prelude.{◌≡◌, ℕ, Bool, List, [], ◌∷◌, Option, Some, None, codes, find, if◌then◌else◌, length, nat_le, nat_lt, option_and_then, option_map}
+use Rattle.std.specs.Option.{option_map_or}
 use Rattle.std.specs.Str.{bytes_eq}
 use Rattle.wire_spec.specs.declared.pad.Pad.{Pad}
 use Rattle.wire_spec.specs.declared.pad.Pad.TheVariants.{Any, Zero}
@@ -12,12 +13,13 @@ use Rattle.command_words.specs.declared.command.CanonVersion.{CanonVersion}
 use Rattle.command_words.specs.declared.command.CanonVersion.TheVariants as canon
 use Rattle.command_words.specs.declared.collection.Collection.{Collection}
 use Rattle.command_words.specs.declared.command.Command.{Command}
-use Rattle.command_words.specs.declared.command.Command.TheVariants.{Replay, Show, Check, Canon, Pcap, Collect, Send}
+use Rattle.command_words.specs.declared.command.Command.TheVariants.{Replay, Show, Check, Canon, Pcap, Collect, Send, Relay, Agent}
+use Rattle.relay_out.specs.Routes.{Route}
 use Rattle.command_words.specs.Rules.{Text, Rule}
 use Rattle.books_spec.specs.declared.limits.Limits.{Limits}
 use Rattle.command_words.specs.Pieces.{Piece, AreLawful, count_of, spelling, text_of}
 use Rattle.command_words.specs.Limits.{limits_asked, texts_by}
-use Rattle.command_words.specs.Collections.{place_or, turns_asked}
+use Rattle.command_words.specs.Collections.{place_or, routes_asked, turns_asked}
 use Rattle.books_spec.specs.Limits.{AreLawful as AreWithin}
 use Rattle.command_words.specs.Reading.{lawful_pieces}
 
@@ -63,10 +65,26 @@ collection_under pieces limits = option_map (collection_with pieces limits) (tur
 abbrev pub collection_of : List Piece → Option Collection
 collection_of pieces = option_and_then (collection_under pieces) (limits_of pieces)
 
+-- where the datagrams go that `relay` passes on
+abbrev pub routes_of : List Piece → Option (List Route)
+routes_of pieces = routes_asked (text_of (codes "routes") pieces)
+
+-- how many they are, and none where there are no routes
+abbrev pub route_count_of : List Piece → ℕ
+route_count_of pieces = option_map_or (λ routes. length routes) (routes_of pieces) 0
+
+-- what `relay` is asked for
+abbrev pub relay_under : List Piece → Collection → Option Command
+relay_under pieces asked = option_map (λ routes. Relay asked routes) (routes_of pieces)
+
+abbrev pub relay_of : List Piece → Option Command
+relay_of pieces = option_and_then (relay_under pieces) (collection_of pieces)
+
 -- the limits of a command, where it has some, are within their ranges
 abbrev pub HasLawfulLimits : Command → Type 0
 HasLawfulLimits (Replay limits interfaces) = AreWithin limits
 HasLawfulLimits (Collect asked) = AreWithin asked.limits
+HasLawfulLimits (Relay asked routes) = AreWithin asked.limits
 HasLawfulLimits _ = Unit {0}
 
 -- a command: its first word, its options and flags, and what it is with the values of its pieces, or None where one of
@@ -137,6 +155,26 @@ send_row = record {
   gives = λ pieces. Some (Send (to_of pieces));
 }
 
+abbrev pub relay_row : CommandRow
+relay_row = record {
+  word = codes "relay";
+  rules =
+      record { name = codes "streams"; form = Optional }
+      ∷ record { name = codes "sources"; form = Optional }
+      ∷ record { name = codes "datagram-width"; form = Optional }
+      ∷ record { name = codes "sample-width"; form = Optional }
+      ∷ record { name = codes "boot-slack"; form = Optional }
+      ∷ record { name = codes "interfaces"; form = Flag }
+      ∷ record { name = codes "turns"; form = Required }
+      ∷ record { name = codes "listen"; form = Optional }
+      ∷ record { name = codes "routes"; form = Required }
+      ∷ [];
+  gives = relay_of;
+}
+
+abbrev pub agent_row : CommandRow
+agent_row = record { word = codes "agent"; rules = []; gives = λ pieces. Some Agent }
+
 abbrev pub row_of : CommandName → CommandRow
 row_of name.Replay = replay_row
 row_of name.Show = show_row
@@ -145,9 +183,12 @@ row_of name.Canon = canon_row
 row_of name.Pcap = pcap_row
 row_of name.Collect = collect_row
 row_of name.Send = send_row
+row_of name.Relay = relay_row
+row_of name.Agent = agent_row
 
 abbrev pub commands : List CommandName
-commands = name.Replay ∷ name.Show ∷ name.Check ∷ name.Canon ∷ name.Pcap ∷ name.Collect ∷ name.Send ∷ []
+commands = name.Replay ∷ name.Show ∷ name.Check ∷ name.Canon ∷ name.Pcap ∷ name.Collect ∷ name.Send ∷ name.Relay
+    ∷ name.Agent ∷ []
 
 -- ---- the same for all commands
 
@@ -178,3 +219,21 @@ command_named words name = option_and_then (command_with name) (lawful_pieces (r
 abbrev pub command_of : List Text → Option Command
 command_of [] = None
 command_of (word ∷ words) = option_and_then (command_named words) (name_of word)
+
+-- ---- with receivers that are handed in
+
+-- how many a command needs: one for each route
+abbrev pub receivers_needed : Command → ℕ
+receivers_needed (Relay asked routes) = length routes
+receivers_needed _ = 0
+
+abbrev pub with_receivers : ℕ → Command → Option Command
+with_receivers receivers c = if nat_le (receivers_needed c) receivers then Some c else None
+
+-- the command that the words ask for, or None where they ask for none or for more receivers than there are
+abbrev pub command_for : ℕ → List Text → Option Command
+command_for receivers words = option_and_then (with_receivers receivers) (command_of words)
+
+-- the same of the command of this name, from the words behind it
+abbrev pub named_for : ℕ → List Text → CommandName → Option Command
+named_for receivers words name = option_and_then (with_receivers receivers) (command_named words name)

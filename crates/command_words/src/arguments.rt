@@ -31,6 +31,8 @@ pub enum CommandName {
     Pcap,
     Collect,
     Send,
+    Relay,
+    Agent,
 }
 
 static NONE: [Argument; 0] = [];
@@ -119,6 +121,46 @@ static SEND: [Argument; 1] = [Argument {
     form: Form::Optional,
 }];
 
+// Those of `collect`, and where each datagram goes.
+static RELAY: [Argument; 9] = [
+    Argument {
+        name: "streams",
+        form: Form::Optional,
+    },
+    Argument {
+        name: "sources",
+        form: Form::Optional,
+    },
+    Argument {
+        name: "datagram-width",
+        form: Form::Optional,
+    },
+    Argument {
+        name: "sample-width",
+        form: Form::Optional,
+    },
+    Argument {
+        name: "boot-slack",
+        form: Form::Optional,
+    },
+    Argument {
+        name: "interfaces",
+        form: Form::Flag,
+    },
+    Argument {
+        name: "turns",
+        form: Form::Required,
+    },
+    Argument {
+        name: "listen",
+        form: Form::Optional,
+    },
+    Argument {
+        name: "routes",
+        form: Form::Required,
+    },
+];
+
 impl CommandName {
     // The command of this name.
     pub(crate) fn named(word: &str) -> Option<CommandName>
@@ -132,6 +174,8 @@ impl CommandName {
             "pcap" => Some(CommandName::Pcap),
             "collect" => Some(CommandName::Collect),
             "send" => Some(CommandName::Send),
+            "relay" => Some(CommandName::Relay),
+            "agent" => Some(CommandName::Agent),
             _ => None,
         }
     }
@@ -147,6 +191,8 @@ impl CommandName {
             CommandName::Pcap => "pcap",
             CommandName::Collect => "collect",
             CommandName::Send => "send",
+            CommandName::Relay => "relay",
+            CommandName::Agent => "agent",
         }
     }
 
@@ -161,7 +207,9 @@ impl CommandName {
             CommandName::Canon => &CANON,
             CommandName::Collect => &COLLECT,
             CommandName::Send => &SEND,
+            CommandName::Relay => &RELAY,
             CommandName::Show => &NONE,
+            CommandName::Agent => &NONE,
         }
     }
 }

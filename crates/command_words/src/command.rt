@@ -1,6 +1,6 @@
-ghost use Rattle.std.specs.Prelude.{◌≡◌, ◌↔◌, Bool, List, codes, if◌then◌else◌, is_some, IfOk, None, Some, Err, map, string_bytes};
+ghost use Rattle.std.specs.Prelude.{◌≡◌, ◌≤◌, ◌↔◌, Bool, List, codes, if◌then◌else◌, is_some, IfOk, None, Some, Err, map, string_bytes};
 ghost use Rattle.clap.specs.Words.{found_of, kind_of, one_text};
-ghost use Rattle.command_words.specs.Commands.{HasLawfulLimits, collection_of, command_named, command_of, command_with, listen_of, rules_of, to_of, turns_of};
+ghost use Rattle.command_words.specs.Commands.{HasLawfulLimits, collection_of, command_for, command_named, command_with, listen_of, named_for, receivers_needed, relay_of, route_count_of, rules_of, to_of};
 ghost use Rattle.command_words.specs.declared.arguments.CommandName.TheVariants as name_is;
 ghost use Rattle.command_words.specs.Matching.{Holds};
 ghost use Rattle.command_words.specs.Pieces.{Piece};
@@ -8,7 +8,7 @@ ghost use Rattle.command_words.specs.Arguments.{rules_in};
 ghost use Rattle.command_words.specs.Reading.{pieces_from};
 
 use crate::arguments::{Argument, CommandName};
-use crate::collection::{Collection, turns_in};
+use crate::collection::{Collection, routes_in, turns_in};
 use crate::limits::LimitTexts;
 use crate::matching::matches_in;
 use crate::place::Place;
@@ -17,27 +17,48 @@ use capture_spec::PcapOutput;
 use clap::error::ErrorKind;
 use clap::{ArgMatches, Error};
 use collector_views::Limits;
+use relay_out::Routes;
 use std::alloc::Global;
 use wire_spec::Pad;
 
 /// What the words of the command line ask for.
-#[derive(Debug, Drop)]
+#[derive(Drop)]
 pub enum Command<'a> {
     /// Reads a capture and reports its streams and sources, under the limits of a collector, and with a line for each
     /// interface where that is asked for.
-    Replay { limits: Limits, interfaces: bool },
+    Replay {
+        limits: Limits,
+        interfaces: bool,
+    },
     /// Reads a capture and shows each of its entries.
     Show,
     /// Reads a capture and names its faulty entries, under a reading of padding.
-    Check { pad: Pad },
+    Check {
+        pad: Pad,
+    },
     /// Reads a capture and writes it anew, each datagram with zero padding.
-    Canon { version: CanonVersion },
+    Canon {
+        version: CanonVersion,
+    },
     /// Reads a pcap file and writes a capture of its payloads, or how many of its packets have one.
-    Pcap { output: PcapOutput },
+    Pcap {
+        output: PcapOutput,
+    },
     /// Listens at a place, receives so often, and reports the streams and sources of the datagrams that came.
-    Collect { asked: Collection<'a> },
+    Collect {
+        asked: Collection<'a>,
+    },
     /// Reads a capture and sends the bytes of each entry to a place.
-    Send { to: Place<'a> },
+    Send {
+        to: Place<'a>,
+    },
+    /// Collects, and passes each datagram on that is the first of its number.
+    Relay {
+        asked: Collection<'a>,
+        routes: Routes,
+    },
+    /// Reads a script and writes a capture of the datagrams that its sub-agents send.
+    Agent,
 }
 
 // The places where no text names one: sFlow's UDP port is 6343.
@@ -122,7 +143,9 @@ fn output_in(matches: &ArgMatches) -> PcapOutput
 
 // Where the link listens.
 fn listen_in<'a>(matches: &ArgMatches<'a>) -> Place<'a>
-    ensures { (pieces : List Piece) → Holds (found_of matches.now) (rules_of name_is.Collect) pieces
+    ensures collect { (pieces : List Piece) → Holds (found_of matches.now) (rules_of name_is.Collect) pieces
+        → result ≡ listen_of pieces }
+    ensures relay { (pieces : List Piece) → Holds (found_of matches.now) (rules_of name_is.Relay) pieces
         → result ≡ listen_of pieces }
 {
     Place::or(LISTEN, matches.get_str("listen"))
@@ -136,9 +159,11 @@ fn to_in<'a>(matches: &ArgMatches<'a>) -> Place<'a>
     Place::or(TO, matches.get_str("to"))
 }
 
-// What `collect` is asked for.
+// What is collected.
 fn collection_in<'a>(matches: &ArgMatches<'a>) -> Option<Collection<'a>>
-    ensures { (pieces : List Piece) → Holds (found_of matches.now) (rules_of name_is.Collect) pieces
+    ensures collect { (pieces : List Piece) → Holds (found_of matches.now) (rules_of name_is.Collect) pieces
+        → result ≡ collection_of pieces }
+    ensures relay { (pieces : List Piece) → Holds (found_of matches.now) (rules_of name_is.Relay) pieces
         → result ≡ collection_of pieces }
 {
     let Some(limits) = LimitTexts::in_matches(matches).limits() else {
@@ -155,6 +180,20 @@ fn collection_in<'a>(matches: &ArgMatches<'a>) -> Option<Collection<'a>>
     })
 }
 
+// What `relay` is asked for.
+fn relay_in<'a>(matches: &ArgMatches<'a>) -> Option<Command<'a>>
+    ensures { (pieces : List Piece) → Holds (found_of matches.now) (rules_of name_is.Relay) pieces
+        → result ≡ relay_of pieces }
+{
+    let Some(asked) = collection_in(matches) else {
+        return None;
+    };
+    let Some(routes) = routes_in(matches.get_str("routes")) else {
+        return None;
+    };
+    Some(Command::Relay { asked, routes })
+}
+
 // Whether the limits and the number of receives are within their ranges.
 fn can_collect(arguments: &[Argument], words: &[String]) -> bool
     ensures { (pieces : List Piece)
@@ -163,6 +202,37 @@ fn can_collect(arguments: &[Argument], words: &[String]) -> bool
 {
     LimitTexts::in_words(arguments, words).limits().is_some()
         && turns_in(text(arguments, words, "turns")).is_some()
+}
+
+// Whether that is so, and the routes are routes.
+fn can_relay(arguments: &[Argument], words: &[String]) -> bool
+    ensures { (pieces : List Piece)
+        → pieces_from (rules_in arguments.now) None (map string_bytes words.now) ≡ Some pieces
+        → result ≡ is_some (relay_of pieces) }
+{
+    can_collect(arguments, words) && routes_in(text(arguments, words, "routes")).is_some()
+}
+
+// How many routes the words say; none where they say no routes.
+fn route_count(arguments: &[Argument], words: &[String]) -> usize
+    ensures { (pieces : List Piece)
+        → pieces_from (rules_in arguments.now) None (map string_bytes words.now) ≡ Some pieces
+        → result ≡ route_count_of pieces }
+{
+    match routes_in(text(arguments, words, "routes")) {
+        Some(routes) => routes.len(),
+        None => 0,
+    }
+}
+
+// How many receivers the command of this name needs, where the words ask for it.
+fn receivers_of(name: CommandName, words: &[String]) -> usize
+    ensures { (c : Command) → command_named (map string_bytes words.now) name ≡ Some c → result ≡ receivers_needed c }
+{
+    match name {
+        CommandName::Relay => route_count(name.arguments(), words),
+        _ => 0,
+    }
 }
 
 // Whether the words ask for the command of this name. This takes no memory.
@@ -174,12 +244,21 @@ fn asks(name: CommandName, words: &[String]) -> bool
         && match name {
             CommandName::Replay => LimitTexts::in_words(arguments, words).limits().is_some(),
             CommandName::Collect => can_collect(arguments, words),
+            CommandName::Relay => can_relay(arguments, words),
             CommandName::Show
             | CommandName::Check
             | CommandName::Canon
             | CommandName::Pcap
-            | CommandName::Send => true,
+            | CommandName::Send
+            | CommandName::Agent => true,
         }
+}
+
+// Whether they do, and there are as many receivers as it needs.
+fn asks_for(name: CommandName, words: &[String], receivers: usize) -> bool
+    ensures { result ≡ is_some (named_for receivers (map string_bytes words.now) name) }
+{
+    asks(name, words) && receivers_of(name, words) <= receivers
 }
 
 // The command of this name, from what `clap` has read.
@@ -212,6 +291,8 @@ fn command_in<'a>(name: CommandName, matches: &ArgMatches<'a>) -> Option<Command
             None => None,
         },
         CommandName::Send => Some(Command::Send { to: to_in(matches) }),
+        CommandName::Relay => relay_in(matches),
+        CommandName::Agent => Some(Command::Agent),
     }
 }
 
@@ -220,12 +301,14 @@ fn read_command<'a>(
     alloc: Global,
     name: CommandName,
     words: &'a [String],
+    receivers: usize,
 ) -> Result<Command<'a>, WordsRefusal>
-    ensures usage { (result ≡ Err WordsRefusal.Usage) ↔ (command_named (map string_bytes words.entry.now) name ≡ None) }
-    ensures command { IfOk result (λ c. command_named (map string_bytes words.entry.now) name ≡ Some c) }
+    ensures usage { (result ≡ Err WordsRefusal.Usage) ↔ (named_for receivers (map string_bytes words.entry.now) name ≡ None) }
+    ensures command { IfOk result (λ c. named_for receivers (map string_bytes words.entry.now) name ≡ Some c) }
     ensures lawful { IfOk result (λ c. HasLawfulLimits c) }
+    ensures enough { IfOk result (λ c. receivers_needed c ≤ receivers) }
 {
-    if !asks(name, words) {
+    if !asks_for(name, words, receivers) {
         return Err(WordsRefusal::Usage);
     }
     match matches_in(alloc, name.word(), name.arguments(), words) {
@@ -237,16 +320,22 @@ fn read_command<'a>(
     }
 }
 
-/// The command that the words after the program's name ask for. `Usage` comes exactly where they ask for none, and
-/// before any memory is taken. `Memory` may come wherever they ask for one.
-pub fn read_words<'a>(alloc: Global, words: &'a [String]) -> Result<Command<'a>, WordsRefusal>
-    ensures usage { (result ≡ Err WordsRefusal.Usage) ↔ (command_of (map string_bytes words.entry.now) ≡ None) }
-    ensures command { IfOk result (λ c. command_of (map string_bytes words.entry.now) ≡ Some c) }
+/// The command that the words after the program's name ask for, where so many receivers are handed in. `Usage` comes
+/// exactly where they ask for none or for more routes than there are receivers, and before any memory is taken. `Memory`
+/// may come wherever they ask for one.
+pub fn read_words<'a>(
+    alloc: Global,
+    words: &'a [String],
+    receivers: usize,
+) -> Result<Command<'a>, WordsRefusal>
+    ensures usage { (result ≡ Err WordsRefusal.Usage) ↔ (command_for receivers (map string_bytes words.entry.now) ≡ None) }
+    ensures command { IfOk result (λ c. command_for receivers (map string_bytes words.entry.now) ≡ Some c) }
     ensures lawful { IfOk result (λ c. HasLawfulLimits c) }
+    ensures enough { IfOk result (λ c. receivers_needed c ≤ receivers) }
 {
     match words {
         [first, rest @ ..] => match CommandName::named(first.as_str()) {
-            Some(name) => read_command(alloc, name, rest),
+            Some(name) => read_command(alloc, name, rest, receivers),
             None => Err(WordsRefusal::Usage),
         },
         [] => Err(WordsRefusal::Usage),

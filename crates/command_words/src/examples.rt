@@ -18,6 +18,8 @@ pub fn words_of_commands()
     ensures interfaces_twice { command_of (codes "replay" ∷ codes "--interfaces" ∷ codes "--interfaces" ∷ []) ≡ None }
     ensures interfaces_of_show { command_of (codes "show" ∷ codes "--interfaces" ∷ []) ≡ None }
     ensures show { command_of (codes "show" ∷ []) ≡ Some Command.Show }
+    ensures agent { command_of (codes "agent" ∷ []) ≡ Some Command.Agent }
+    ensures agent_more { command_of (codes "agent" ∷ codes "x" ∷ []) ≡ None }
     ensures check { command_of (codes "check" ∷ []) ≡ Some (Command.Check Pad.Any) }
     ensures check_zero { command_of (codes "check" ∷ codes "--zero" ∷ []) ≡ Some (Command.Check Pad.Zero) }
 

@@ -15,6 +15,7 @@ mod meaning;
 mod number;
 mod place;
 mod reading;
+mod relay_words;
 mod words_of_links;
 
 pub use arguments::{CommandName, Form};
@@ -27,6 +28,8 @@ pub use laws::{
     commands_are_spelled, lawful_words_have_one_reading, limits_are_lawful, numbers_are_decimal,
 };
 pub use place::Place;
+pub use relay_out::Routes;
+pub use relay_words::{words_of_relay, words_with_receivers};
 pub use words_of_links::{words_of_collect, words_of_send};
 
 #[cfg(test)]

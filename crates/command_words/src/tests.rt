@@ -56,6 +56,17 @@ fn told(alloc: Global, read: &Result<Command<'_>, WordsRefusal>) -> Result<Strin
             )
         }
         Ok(Command::Send { to }) => format!(in alloc; "send {}", to.text()),
+        Ok(Command::Relay { asked, routes }) => {
+            let numbers = numbers_of(alloc, &asked.limits)?;
+            format!(in alloc;
+                "relay {} {} {numbers} {} {}",
+                asked.turns,
+                asked.listen.text(),
+                asked.interfaces,
+                routes.len()
+            )
+        }
+        Ok(Command::Agent) => format!(in alloc; "agent"),
     }
 }
 
@@ -67,10 +78,13 @@ fn words_of(alloc: Global, texts: &[&str]) -> Result<Vec<String>, AllocError> {
     Ok(words)
 }
 
+// So many receivers are handed in.
+const RECEIVERS: usize = 2;
+
 // With ample memory each list of words has its reading.
 #[test]
 fn words_have_their_readings(rt: HostRuntime) -> Result<(), Fail> {
-    let cases: [(&[&str], &str); 56] = [
+    let cases: [(&[&str], &str); 63] = [
         (&[], "usage"),
         (&[""], "usage"),
         (&["replay"], "replay 256 4096 64 1024 5000 false"),
@@ -132,6 +146,8 @@ fn words_have_their_readings(rt: HostRuntime) -> Result<(), Fail> {
         (&["check", ""], "usage"),
         (&["--zero", "check"], "usage"),
         (&["Check"], "usage"),
+        (&["agent"], "agent"),
+        (&["agent", "extra"], "usage"),
         (&["collect"], "usage"),
         (
             &["collect", "--turns", "5"],
@@ -157,10 +173,21 @@ fn words_have_their_readings(rt: HostRuntime) -> Result<(), Fail> {
         (&["send", "--to", "a.example:1"], "send a.example:1"),
         (&["send", "--to"], "usage"),
         (&["send", "--listen=a:1"], "usage"),
+        (
+            &["relay", "--turns", "5", "--routes", "10.0.0.1=a;any=b"],
+            "relay 5 0.0.0.0:6343 256 4096 64 1024 5000 false 2",
+        ),
+        (&["relay", "--turns=5"], "usage"),
+        (&["relay", "--routes=any=a"], "usage"),
+        (&["relay", "--turns=5", "--routes=10.0.0.1"], "usage"),
+        (
+            &["relay", "--turns=5", "--routes=any=a;any=b;any=c"],
+            "usage",
+        ),
     ];
     for (texts, want) in cases {
         let words = words_of(rt.alloc(), texts)?;
-        let read = told(rt.alloc(), &read_words(rt.alloc(), &words))?;
+        let read = told(rt.alloc(), &read_words(rt.alloc(), &words, RECEIVERS))?;
         assert_eq!(rt; read.as_str(), want, "{texts:?}");
     }
     Ok(())

@@ -6,8 +6,8 @@ ghost use Rattle.std.specs.Process.{exit_status};
 ghost use Rattle.command_runs.specs.Statuses.{code_of};
 
 use sflow_tool::{
-    CountTap, InputSource, LengthTap, OutputSink, Seeds, Status, SystemClock, Tap, Taps,
-    TopPortTap, UdpLink, run,
+    CountTap, InputSource, LengthTap, OutputSink, Receiver, Receivers, Seeds, Status, SystemClock,
+    Tap, Taps, TopPortTap, UdpLink, UdpReceiver, run,
 };
 use std::alloc::{AllocError, Global};
 use std::env::Env;
@@ -118,6 +118,17 @@ fn new_consumers(alloc: Global) -> Result<Consumers, AllocError> {
     })
 }
 
+// As many receivers as there may be routes.
+const RECEIVERS: usize = 8;
+
+fn new_receivers(rt: HostRuntime) -> Result<Receivers, AllocError> {
+    let mut boxes: Vec<Box<dyn Receiver>> = Vec::new(rt.alloc());
+    for _ in 0..RECEIVERS {
+        boxes.push(Box::new(rt.alloc(), UdpReceiver::new(rt))?)?;
+    }
+    Ok(Receivers::new(boxes))
+}
+
 fn main(rt: HostRuntime) -> ExitCode {
     let seeds = match seeds(&rt) {
         Ok(seeds) => seeds,
@@ -142,6 +153,9 @@ fn main(rt: HostRuntime) -> ExitCode {
         return end_run(&rt, &Status::Memory);
     };
     let mut taps = Taps::new(boxes);
+    let Ok(mut receivers) = new_receivers(rt) else {
+        return end_run(&rt, &Status::Memory);
+    };
     let mut source = InputSource::new(rt);
     let mut sink = OutputSink::new(rt);
     let mut link = UdpLink::new(rt, SystemClock::new(rt));
@@ -153,6 +167,7 @@ fn main(rt: HostRuntime) -> ExitCode {
         &mut sink,
         &mut link,
         &mut taps,
+        &mut receivers,
     );
     end_run(&rt, &status)
 }

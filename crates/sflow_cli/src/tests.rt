@@ -1,6 +1,7 @@
 // What a run does to a consumer of one's own, which no clause says: when it is dropped.
 use sflow_tool::{
-    Brief, CountTap, Line, MemoryLink, MemorySink, MemorySource, Seeds, Status, Tap, Taps, run,
+    Brief, CountTap, Line, MemoryLink, MemorySink, MemorySource, Receivers, Seeds, Status, Tap,
+    Taps, run,
 };
 use std::alloc::{AllocError, Global};
 use std::cell::Cell;
@@ -102,6 +103,7 @@ fn a_done_one_is_dropped_by_a_run(rt: HostRuntime) -> Result<(), Fail> {
     let mut source = MemorySource::new(capture(alloc)?, 65_536, Vec::new(alloc));
     let mut sink = MemorySink::new(alloc, 65_536, Vec::new(alloc));
     let mut link = MemoryLink::new(alloc, Vec::new(alloc), Vec::new(alloc));
+    let mut receivers = Receivers::new(Vec::new(alloc));
     let status = run(
         alloc,
         &words,
@@ -110,6 +112,7 @@ fn a_done_one_is_dropped_by_a_run(rt: HostRuntime) -> Result<(), Fail> {
         &mut sink,
         &mut link,
         &mut taps,
+        &mut receivers,
     );
     assert!(rt; matches!(&status, Status::Done));
     assert!(rt; taps.len() == 0 && taps.ended() == 1 && drops.get() == 1);

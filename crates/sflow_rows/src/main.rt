@@ -16,7 +16,7 @@ use std::{fs, io};
 use table::Table;
 
 // What rows share comes first.
-const TABLES: [&str; 16] = [
+const TABLES: [&str; 19] = [
     "parts.txt",
     "words.txt",
     "replay.txt",
@@ -32,6 +32,9 @@ const TABLES: [&str; 16] = [
     "pcap.txt",
     "versions.txt",
     "links.txt",
+    "relay.txt",
+    "agent.txt",
+    "scripts.txt",
     "wrong.txt",
 ];
 

@@ -8,6 +8,8 @@ pub enum Misread {
     Key,
     /// It stands before the first row.
     NoRow,
+    /// It stands before the first receiver of its row.
+    NoReceiver,
     /// A number isn't one, or is out of its range.
     Number,
     /// Something is neither a part, nor a number, nor pairs of hex digits.
@@ -21,6 +23,7 @@ impl Misread {
         match self {
             Misread::Key => "no such line",
             Misread::NoRow => "no row begins before it",
+            Misread::NoReceiver => "no receiver stands before it",
             Misread::Number => "no number",
             Misread::Bytes => "no such bytes",
             Misread::Memory => "out of memory",

@@ -31,6 +31,8 @@ pub struct Row {
     pub link_fails: Vec<u64>,
     /// The datagrams that the link must take to send.
     pub sent: Vec<Vec<u8>>,
+    /// The receivers that are handed in, in order.
+    pub receivers: Vec<Taker>,
 }
 
 /// What a receive of a link gives: a datagram and its arrival in ms, or nothing.
@@ -38,6 +40,15 @@ pub struct Row {
 pub enum Item {
     Got { at: u64, bytes: Vec<u8> },
     Quiet,
+}
+
+/// A receiver of datagrams that are passed on.
+#[derive(Clone, Drop)]
+pub struct Taker {
+    /// The numbers of its calls that fail, from 1 on.
+    pub fails: Vec<u64>,
+    /// The datagrams that it must take.
+    pub taken: Vec<Vec<u8>>,
 }
 
 /// A consumer of sampled headers.
@@ -69,6 +80,7 @@ impl Row {
             items: Vec::new(alloc),
             link_fails: Vec::new(alloc),
             sent: Vec::new(alloc),
+            receivers: Vec::new(alloc),
         })
     }
 }

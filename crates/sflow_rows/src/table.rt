@@ -1,6 +1,6 @@
 //! The lines of a table; data/parts.txt says what each of them means.
 use crate::misread::Misread;
-use crate::row::{Consumer, Item, Row};
+use crate::row::{Consumer, Item, Row, Taker};
 use crate::spelling::{Part, append};
 use std::alloc::Global;
 
@@ -43,14 +43,20 @@ impl Table {
     fn take_one(&mut self, line: &str) -> Result<(), Misread> {
         let (key, _) = key_of(line);
         match key {
-            ">" | "~" => self.take_text(line),
+            ">" | "~" | "<" => self.take_text(line),
             _ => self.take_words(without_comment(line)),
         }
     }
 
-    // Text that is printed stands behind one space, with all the spaces that it has.
+    // Text that is read or printed stands behind one space, with all the spaces that it has.
     fn take_text(&mut self, line: &str) -> Result<(), Misread> {
         let row = self.rows.last_mut().ok_or(Misread::NoRow)?;
+        if let Some(text) = line.strip_prefix("<") {
+            row.input
+                .extend_from_slice(text.strip_prefix(" ").unwrap_or("").as_bytes())?;
+            row.input.push(b'\n')?;
+            return Ok(());
+        }
         if let Some(text) = line.strip_prefix("~ ") {
             row.output.extend_from_slice(text.as_bytes())?;
             return Ok(());
@@ -144,6 +150,8 @@ fn take_of_row(
             row.sent.push(bytes)?;
             Ok(())
         }
+        "receiver" => take_receiver(row, alloc, rest),
+        "taken" => take_taken(row, alloc, parts, rest),
         "taps" => take_taps(&mut row.taps, rest),
         "held" => take_held(row, alloc, rest),
         "status" => {
@@ -170,6 +178,24 @@ fn take_got(row: &mut Row, alloc: Global, parts: &[Part], rest: &str) -> Result<
     let mut bytes = Vec::new(alloc);
     append(&mut bytes, parts, text)?;
     row.items.push(Item::Got { at, bytes })?;
+    Ok(())
+}
+
+// One more receiver, with the numbers of its calls that fail.
+fn take_receiver(row: &mut Row, alloc: Global, rest: &str) -> Result<(), Misread> {
+    let mut fails = Vec::new(alloc);
+    take_numbers(&mut fails, rest)?;
+    let taken = Vec::new(alloc);
+    row.receivers.push(Taker { fails, taken })?;
+    Ok(())
+}
+
+// A datagram that the receiver above it takes.
+fn take_taken(row: &mut Row, alloc: Global, parts: &[Part], rest: &str) -> Result<(), Misread> {
+    let receiver = row.receivers.last_mut().ok_or(Misread::NoReceiver)?;
+    let mut bytes = Vec::new(alloc);
+    append(&mut bytes, parts, rest)?;
+    receiver.taken.push(bytes)?;
     Ok(())
 }
 

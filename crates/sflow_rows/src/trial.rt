@@ -1,8 +1,8 @@
 //! A row's runs over the memory forms of the outside.
 use crate::row::{Consumer, Item, Row};
 use sflow_tool::{
-    CountTap, LengthTap, LinkItem, MemoryLink, MemorySink, MemorySource, Seeds, Source, Status,
-    Tap, Taps, TopPortTap, run,
+    CountTap, LengthTap, LinkItem, ListReceiver, MemoryLink, MemorySink, MemorySource, Receiver,
+    Receivers, Seeds, Source, Status, Tap, Taps, TopPortTap, run,
 };
 use std::alloc::{AllocError, Global};
 
@@ -53,6 +53,7 @@ fn difference_in_pieces(
         }
     }
     let mut taps = Taps::new(boxes);
+    let mut receivers = receivers_of(alloc, row)?;
     let status = run(
         alloc,
         &row.words,
@@ -61,6 +62,7 @@ fn difference_in_pieces(
         &mut sink,
         &mut link,
         &mut taps,
+        &mut receivers,
     );
     let status = shown(alloc, &status)?;
     if status.as_str() != row.status.as_str() {
@@ -75,6 +77,12 @@ fn difference_in_pieces(
     }
     if link.sent() != row.sent.as_slice() {
         return Ok(Some(format!(in alloc; "sent {:?}", link.sent())?));
+    }
+    for (place, want) in row.receivers.iter().enumerate() {
+        if place < receivers.len() && receivers.taken(place) != want.taken.as_slice() {
+            let taken = receivers.taken(place);
+            return Ok(Some(format!(in alloc; "taken {place} {taken:?}")?));
+        }
     }
     if let Some(want) = &row.held {
         let held = held_lines(alloc, &taps)?;
@@ -106,6 +114,16 @@ fn items_of(alloc: Global, row: &Row) -> Result<Vec<LinkItem>, AllocError> {
         items.push(item)?;
     }
     Ok(items)
+}
+
+// The receivers that are handed in.
+fn receivers_of(alloc: Global, row: &Row) -> Result<Receivers, AllocError> {
+    let mut boxes: Vec<Box<dyn Receiver>> = Vec::new(alloc);
+    for receiver in &row.receivers {
+        let fails = Vec::from_slice(alloc, &receiver.fails)?;
+        boxes.push(Box::new(alloc, ListReceiver::new(alloc, fails))?)?;
+    }
+    Ok(Receivers::new(boxes))
 }
 
 // The lines of the consumers that are held.

@@ -18,7 +18,7 @@ use Rattle.command_runs.specs.declared.status.Status.{Status}
 use Rattle.command_runs.specs.declared.status.Status.TheVariants.{Done, LinkFault, Memory}
 use Rattle.command_runs.specs.Endings.{Flushed, whole, part}
 use Rattle.sflow_tool.specs.Replays.{Collects, briefs_in, items_in, report_of}
-use Rattle.sflow_tool.specs.Collects.{Came, CollectsOver, HasCome, HasTurned, TookTurns, TurnFailed, received_of, received_some, not_listening, not_received, reported}
+use Rattle.sflow_tool.specs.Collects.{Came, CollectsOver, HasCome, HasTurned, TookTurns, collected_text, TurnFailed, received_of, received_some, not_listening, not_received, reported}
 use Rattle.sflow_tool.specs.Surroundings.{surroundings}
 use Rattle.sflow_tool.proofs.Items.{report_so, stands_so}
 
@@ -68,9 +68,41 @@ none_at_listen takes asked link link' none is = record {
   left = ap (λ (l : LinkSeen). items_of l.told) is ∙ all_left link.told;
 }
 
-pub not_heard : (asked : Collection) (source sink : Seen) (link link' : LinkSeen) (taps : ShownTaps) → link' ≡ failed link
-    → CollectsOver asked (surroundings source sink link taps) (surroundings source sink link' taps) LinkFault
-not_heard asked source sink link link' taps is =
+-- where a receive failed, and where all went well, what was taken is what came before the run ended
+module _ (takes : List Received → Type 0) (asked : Collection) (link heard link' : LinkSeen)
+    (at : heard ≡ listening asked.listen link) where
+  pub failed_come : TurnFailed takes heard link' asked.turns → HasCome takes asked link link' LinkFault
+  failed_come turned = record {
+    turns = turned.count;
+    entries = turned.entries;
+    came = listened asked.listen link heard turned.count turned.entries at turned.came;
+    were = turned.were;
+    turned = omega (arith, turned.fewer);
+    left = ap (λ (h : LinkSeen). items_of h.told) (turned.link_is ∙ ap (λ (h : LinkSeen). failed (received_some turned.count h)) at)
+        ∙ some_left asked.listen turned.count link.told;
+  }
+
+  pub all_come : (result : Status) → HasTurned asked asked.turns result → TookTurns takes heard link' asked.turns
+      → HasCome takes asked link link' result
+  all_come result turned took = record {
+    turns = asked.turns;
+    entries = took.entries;
+    came = listened asked.listen link heard asked.turns took.entries at took.came;
+    were = took.were;
+    turned = turned;
+    left = ap (λ (h : LinkSeen). items_of h.told) (took.link_is ∙ ap (received_some asked.turns) at)
+        ∙ some_left asked.listen asked.turns link.told;
+  }
+
+pub turned_so : (asked : Collection) (old new : Seen) (text : List ℕ) (result : Status) → Flushed old new text Done result
+    → HasTurned asked asked.turns result
+turned_so asked old new text result (whole is taken) = subst (HasTurned asked asked.turns) (sym is) refl
+turned_so asked old new text result (part is taken) = subst (HasTurned asked asked.turns) (sym is) refl
+
+pub not_heard : (asked : Collection) (text : ShownTaps → List Entry → List ℕ) (source sink : Seen) (link link' : LinkSeen)
+    (taps : ShownTaps) → link' ≡ failed link
+    → CollectsOver asked text (surroundings source sink link taps) (surroundings source sink link' taps) LinkFault
+not_heard asked text source sink link link' taps is =
     not_listening refl (ap (λ (l : LinkSeen). surroundings source sink l taps) is)
 
 module _ {X : Type 0} (step : X → Brief → X → Type 0) (done : X → Bool) (l : Limits) (now : CollectorState)
@@ -90,62 +122,55 @@ module _ {X : Type 0} (step : X → Brief → X → Type 0) (done : X → Bool) 
   link_so turns now' is = is ∙ ap (received_some turns) at
 
   -- a receive failed
-  pub failed_run : (source sink : Seen) (taps taps' : ShownTaps) → TurnFailed Takes heard link' asked.turns
-      → CollectsOver asked (surroundings source sink link taps) (surroundings source sink link' taps') LinkFault
-  failed_run source sink taps taps' turned =
+  pub failed_run : (text : ShownTaps → List Entry → List ℕ) (source sink : Seen) (taps taps' : ShownTaps)
+      → TurnFailed Takes heard link' asked.turns
+      → CollectsOver asked text (surroundings source sink link taps) (surroundings source sink link' taps') LinkFault
+  failed_run text source sink taps taps' turned =
       not_received turned.count refl turned.fewer (turned.link_is ∙ ap (λ (h : LinkSeen). failed (received_some turned.count h)) at) refl
 
   pub failed_fed : TurnFailed Takes heard link' asked.turns → HasCome Feeds asked link link' LinkFault
-  failed_fed turned = record {
-    turns = turned.count;
+  failed_fed turned = failed_come Feeds asked link heard link' at (record {
+    count = turned.count;
+    fewer = turned.fewer;
     entries = turned.entries;
-    came = listened asked.listen link heard turned.count turned.entries at turned.came;
+    came = turned.came;
     were = fed_so (received_of turned.entries) turned.were;
-    turned = omega (arith, turned.fewer);
-    left = ap (λ (h : LinkSeen). items_of h.told) (turned.link_is ∙ ap (λ (h : LinkSeen). failed (received_some turned.count h)) at)
-        ∙ some_left asked.listen turned.count link.told;
-  }
+    link_is = turned.link_is;
+  })
 
-  -- all receives went well
-  pub reported_run : (source sink sink' : Seen) (taps taps' : ShownTaps) (page : List ℕ) → page ≡ [] → (result : Status)
-      → TookTurns Takes heard link' asked.turns
+  -- all receives went well, and the report was written, or a text with it
+  pub reported_run : (with : List ℕ → List ℕ) (source sink sink' : Seen) (taps taps' : ShownTaps) (page : List ℕ)
+      → page ≡ [] → (result : Status) → TookTurns Takes heard link' asked.turns
       → ((m : Limits) (items : List Item) → StandsFor now.books m items
-      → Flushed sink sink' (page ++ report_with asked.interfaces (whole_books m items) now.classes taps') Done result)
-      → CollectsOver asked (surroundings source sink link taps) (surroundings source sink' link' taps') result
-  reported_run source sink sink' taps taps' page empty result took flushes =
+      → Flushed sink sink' (page ++ with (report_with asked.interfaces (whole_books m items) now.classes taps')) Done result)
+      → CollectsOver asked (λ shown entries. with (collected_text asked shown entries))
+      (surroundings source sink link taps) (surroundings source sink' link' taps') result
+  reported_run with source sink sink' taps taps' page empty result took flushes =
       let es : List Received = received_of took.entries in
       reported took.entries (listened asked.listen link heard asked.turns took.entries at took.came)
       (link_so asked.turns link' took.link_is) refl
       (subst (λ (text : List ℕ). Flushed sink sink' text Done result)
-      (ap (λ p. p ++ report_with asked.interfaces (whole_books l (items_in es)) now.classes taps') empty
-      ∙ report_so step done l now xs ys all left es asked.interfaces taps' took.were
-      ∙ ap (λ (m : Limits). report_of m asked.interfaces taps' es) same)
+      (ap (λ p. p ++ with (report_with asked.interfaces (whole_books l (items_in es)) now.classes taps')) empty
+      ∙ ap with (report_so step done l now xs ys all left es asked.interfaces taps' took.were
+      ∙ ap (λ (m : Limits). report_of m asked.interfaces taps' es) same))
       (flushes l (items_in es) (stands_so step done l now xs ys all left es took.were)))
 
   came_all : (result : Status) → HasTurned asked asked.turns result → TookTurns Takes heard link' asked.turns
       → HasCome Feeds asked link link' result
-  came_all result turned took = record {
-    turns = asked.turns;
+  came_all result turned took = all_come Feeds asked link heard link' at result turned (record {
     entries = took.entries;
-    came = listened asked.listen link heard asked.turns took.entries at took.came;
+    came = took.came;
     were = fed_so (received_of took.entries) took.were;
-    turned = turned;
-    left = ap (λ (h : LinkSeen). items_of h.told) (link_so asked.turns link' took.link_is)
-        ∙ some_left asked.listen asked.turns link.told;
-  }
+    link_is = took.link_is;
+  })
 
-  turned_so : (old new : Seen) (text : List ℕ) (result : Status) → Flushed old new text Done result
-      → HasTurned asked asked.turns result
-  turned_so old new text result (whole is taken) = subst (HasTurned asked asked.turns) (sym is) refl
-  turned_so old new text result (part is taken) = subst (HasTurned asked asked.turns) (sym is) refl
-
-  pub reported_fed : (sink sink' : Seen) (taps' : ShownTaps) (page : List ℕ) (result : Status)
+  pub reported_fed : (with : List ℕ → List ℕ) (sink sink' : Seen) (taps' : ShownTaps) (page : List ℕ) (result : Status)
       → TookTurns Takes heard link' asked.turns
       → ((m : Limits) (items : List Item) → StandsFor now.books m items
-      → Flushed sink sink' (page ++ report_with asked.interfaces (whole_books m items) now.classes taps') Done result)
+      → Flushed sink sink' (page ++ with (report_with asked.interfaces (whole_books m items) now.classes taps')) Done result)
       → HasCome Feeds asked link link' result
-  reported_fed sink sink' taps' page result took flushes =
+  reported_fed with sink sink' taps' page result took flushes =
       came_all result
-      (turned_so sink sink' _ result
+      (turned_so asked sink sink' _ result
       (flushes l (items_in (received_of took.entries)) (stands_so step done l now xs ys all left (received_of took.entries) took.were)))
       took

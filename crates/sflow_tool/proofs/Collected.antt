@@ -1,5 +1,5 @@
 -- Where what comes over a link is what agents sent and the premises hold, a report is that of the agents' account.
-use Rattle.std.proofs.Common.{◌≡◌, ◌⊎◌, ℕ, Bool, List, [], ◌∷◌, map, Some, refl, sym, ap, subst, ◌∙◌}
+use Rattle.std.proofs.Common.{◌≡◌, ◌⊎◌, ℕ, Bool, List, [], ◌∷◌, ◌++◌, map, Some, refl, sym, ap, subst, ◌∙◌}
 use Rattle.std.specs.Prelude.{take}
 use Rattle.wire_spec.specs.Captures.{Entry}
 use Rattle.byte_ends.specs.Seen.{Rose, Seen, Takes}
@@ -26,13 +26,17 @@ use Rattle.command_runs.specs.Endings.{Flushed, whole, part}
 use Rattle.sflow_tool.specs.Collects.{CollectsOver, HasCome, HasTurned, collected_text, lacks_memory, not_listening, not_received, received_of, reported}
 use Rattle.sflow_tool.specs.Headlines.{IsCollected}
 use Rattle.sflow_tool.specs.Performances.{Performs}
+use Rattle.sflow_tool.specs.Relays.{RelaysOver}
+use Rattle.relay_out.specs.declared.progress.Progress.{Progress}
+use Rattle.relay_out.specs.Lines.{relay_text}
+use Rattle.relay_out.specs.Routes.{Route}
 use Rattle.sflow_tool.specs.Replays.{briefs_in, classes_in, items_in, report_of}
 use Rattle.sflow_tool.specs.Surroundings.{Surroundings}
 use Rattle.sflow_tool.proofs.Headline.{delivered, in_their_order}
 use Rattle.sflow_tool.proofs.DeliveredClasses.{briefs_as_sent, classes_as_sent}
 use Rattle.sflow_tool.proofs.LinkRuns.{turns_done}
 
-back_from : (es : List Entry) → map entry_of (received_of es) ≡ es
+pub back_from : (es : List Entry) → map entry_of (received_of es) ≡ es
 back_from [] = refl
 back_from (e ∷ es) = ap (λ (more : List Entry). e ∷ more) (back_from es)
 
@@ -59,18 +63,33 @@ module _ (asked : Collection) (history : List SubAgent) (deliveries : List Deliv
   flushed_done old new text (whole is taken) = taken
   flushed_done old new text (part is taken) = cc
 
-  collected : (told : LinkTold) (before after : Surroundings) → CollectsOver asked before after Done
+  -- where the report is written, or a text with it
+  abbrev text_with : (List ℕ → List ℕ) → ShownTaps → List Entry → List ℕ
+  text_with with taps entries = with (collected_text asked taps entries)
+
+  collected : (with : List ℕ → List ℕ) (told : LinkTold) (before after : Surroundings)
+      → CollectsOver asked (text_with with) before after Done
       → before.link.told ≡ Some told
       → IsCollected asked.limits history deliveries (datagrams_in 65535 (take asked.turns told.items))
-      → Takes before.ends.sink after.ends.sink (due after.taps)
-  collected told before after (lacks_memory is kept) tells d = cc
-  collected told before after (not_listening is kept) tells d = cc
-  collected told before after (not_received turns is fewer link kept) tells d = cc
-  collected told before after (reported entries came link kept flush) tells d =
+      → Takes before.ends.sink after.ends.sink (with (due after.taps))
+  collected with told before after (lacks_memory is kept) tells d = cc
+  collected with told before after (not_listening is kept) tells d = cc
+  collected with told before after (not_received turns is fewer link kept) tells d = cc
+  collected with told before after (reported entries came link kept flush) tells d =
       subst (λ (text : List ℕ). Takes before.ends.sink after.ends.sink text)
-      (ap (collected_text asked after.taps) (came told tells)
-      ∙ report_due after.taps (datagrams_in 65535 (take asked.turns told.items)) d)
+      (ap with (ap (collected_text asked after.taps) (came told tells)
+      ∙ report_due after.taps (datagrams_in 65535 (take asked.turns told.items)) d))
       (flushed_done before.ends.sink after.ends.sink _ flush)
+
+  -- of a run of `relay`
+  pub relay_collected : (routes : List Route) (progress : List Progress) (told : LinkTold) (before after : Surroundings)
+      (status : Status) → RelaysOver asked routes progress before after status → status ≡ Done
+      → before.link.told ≡ Some told
+      → IsCollected asked.limits history deliveries (datagrams_in 65535 (take asked.turns told.items))
+      → Takes before.ends.sink after.ends.sink (due after.taps ++ relay_text routes progress)
+  relay_collected routes progress told before after status ran done tells d =
+      collected (λ text. text ++ relay_text routes progress) told before after
+      (subst (λ (s : Status). RelaysOver asked routes progress before after s) done ran) tells d
 
   -- of the command that the words name
   pub collected_of : (c : Command) (told : LinkTold) (before after : Surroundings) (status : Status)
@@ -80,7 +99,8 @@ module _ (asked : Collection) (history : List SubAgent) (deliveries : List Deliv
   collected_of c told before after status performed same done tells d =
       let ran : Performs (Collect asked) before after status =
       subst (λ (e : Command). Performs e before after status) (sym same) performed in
-      collected told before after (subst (λ (s : Status). CollectsOver asked before after s) done ran) tells d
+      collected (λ text. text) told before after
+      (subst (λ (s : Status). CollectsOver asked (collected_text asked) before after s) done ran) tells d
 
   -- what the consumers are fed
   pub collected_briefs : {X : Type 0} (step : X → Brief → X → Type 0) (done : X → Bool) (told : LinkTold) (link link' : LinkSeen)
@@ -105,5 +125,5 @@ pub turned_of : (asked : Collection) (c : Command) (before after : Surroundings)
     → ¬ Rose before.ends.sink.faults after.ends.sink.faults → ¬ Rose before.link.faults after.link.faults
     → (status ≡ Done) ⊎ (status ≡ Memory)
 turned_of asked c before after status performed same no_write no_link =
-    turns_done asked before after status
+    turns_done asked (collected_text asked) before after status
     (subst (λ (e : Command). Performs e before after status) (sym same) performed) no_write no_link

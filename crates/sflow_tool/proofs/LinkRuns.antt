@@ -2,7 +2,9 @@
 use Rattle.std.proofs.Common.{◌≡◌, ◌⊎◌, ℕ, inl, inr, List, Some, refl, sym, ap, ◌∙◌, subst, arith}
 use Rattle.wire_spec.specs.Bytes.{AreBytes}
 use Rattle.byte_ends.specs.Seen.{Rose, Seen, next_count}
+use Rattle.wire_spec.specs.Captures.{Entry}
 use Rattle.datagram_links.specs.Links.{LinkSeen}
+use Rattle.report_lines.specs.HeaderLines.{ShownTaps}
 use Rattle.command_words.specs.declared.collection.Collection.{Collection}
 use Rattle.command_runs.specs.declared.status.Status.{Status}
 use Rattle.command_runs.specs.declared.status.Status.TheVariants.{Done, Found, Usage, ReadFault, WriteFault, BadInput, Memory, LinkFault, Spent}
@@ -23,8 +25,9 @@ rose n m is = omega (arith, is)
 
 -- ---- `collect`
 
-pub collect_lacks : (asked : Collection) (before : Surroundings) → CollectsOver asked before before Memory
-collect_lacks asked before = collects.lacks_memory refl refl
+pub collect_lacks : (asked : Collection) (text : ShownTaps → List Entry → List ℕ) (before : Surroundings)
+    → CollectsOver asked text before before Memory
+collect_lacks asked text before = collects.lacks_memory refl refl
 
 pub one_done : (input : List ℕ) (one other : Status) → AreBytes input → one ≡ Done → other ≡ Done → one ≡ other
 one_done input one other are first second = first ∙ sym second
@@ -33,11 +36,12 @@ flushed_usage : (old new : Seen) (text : List ℕ) → Flushed old new text Done
 flushed_usage old new text (whole is taken) = cc
 flushed_usage old new text (part is taken) = cc
 
-pub collects_usage : (asked : Collection) (before after : Surroundings) → CollectsOver asked before after Usage → ⊥
-collects_usage asked before after (collects.lacks_memory is kept) = cc
-collects_usage asked before after (not_listening is kept) = cc
-collects_usage asked before after (not_received turns is fewer link kept) = cc
-collects_usage asked before after (reported entries came link kept flush) =
+pub collects_usage : (asked : Collection) (text : ShownTaps → List Entry → List ℕ) (before after : Surroundings)
+    → CollectsOver asked text before after Usage → ⊥
+collects_usage asked text before after (collects.lacks_memory is kept) = cc
+collects_usage asked text before after (not_listening is kept) = cc
+collects_usage asked text before after (not_received turns is fewer link kept) = cc
+collects_usage asked text before after (reported entries came link kept flush) =
     flushed_usage before.ends.sink after.ends.sink _ flush
 
 flushed_done : (old new : Seen) (text : List ℕ) (status : Status) → Flushed old new text Done status
@@ -45,23 +49,24 @@ flushed_done : (old new : Seen) (text : List ℕ) (status : Status) → Flushed 
 flushed_done old new text status (whole is taken) no_write = inl is
 flushed_done old new text status (part is taken) no_write = absurd (no_write (rose _ _ taken.failed))
 
-pub turns_done : (asked : Collection) (before after : Surroundings) (status : Status)
-    → CollectsOver asked before after status → ¬ Rose before.ends.sink.faults after.ends.sink.faults
+pub turns_done : (asked : Collection) (text : ShownTaps → List Entry → List ℕ) (before after : Surroundings) (status : Status)
+    → CollectsOver asked text before after status → ¬ Rose before.ends.sink.faults after.ends.sink.faults
     → ¬ Rose before.link.faults after.link.faults → (status ≡ Done) ⊎ (status ≡ Memory)
-turns_done asked before after status (collects.lacks_memory is kept) no_write no_link = inr is
-turns_done asked before after status (not_listening is kept) no_write no_link =
+turns_done asked text before after status (collects.lacks_memory is kept) no_write no_link = inr is
+turns_done asked text before after status (not_listening is kept) no_write no_link =
     absurd (no_link (rose _ _ (ap (λ (s : Surroundings). s.link.faults) kept)))
-turns_done asked before after status (not_received turns is fewer link kept) no_write no_link =
+turns_done asked text before after status (not_received turns is fewer link kept) no_write no_link =
     absurd (no_link (rose _ _ (ap (λ (l : LinkSeen). l.faults) link)))
-turns_done asked before after status (reported entries came link kept flush) no_write no_link =
+turns_done asked text before after status (reported entries came link kept flush) no_write no_link =
     flushed_done before.ends.sink after.ends.sink _ status flush no_write
 
-pub completes_collect : (asked : Collection) (input : List ℕ) (before after : Surroundings) (status ending : Status)
-    → CollectsOver asked before after status → AreBytes input → before.ends.source.told ≡ Some input → ending ≡ Done
+pub completes_collect : (asked : Collection) (text : ShownTaps → List Entry → List ℕ) (input : List ℕ)
+    (before after : Surroundings) (status ending : Status)
+    → CollectsOver asked text before after status → AreBytes input → before.ends.source.told ≡ Some input → ending ≡ Done
     → ¬ Rose before.ends.source.faults after.ends.source.faults → ¬ Rose before.ends.sink.faults after.ends.sink.faults → ¬ Rose before.link.faults after.link.faults
     → (status ≡ ending) ⊎ (status ≡ Memory)
-completes_collect asked input before after status ending ran are told is no_read no_write no_link =
-    subst (λ (s : Status). (status ≡ s) ⊎ (status ≡ Memory)) (sym is) (turns_done asked before after status ran no_write no_link)
+completes_collect asked text input before after status ending ran are told is no_read no_write no_link =
+    subst (λ (s : Status). (status ≡ s) ⊎ (status ≡ Memory)) (sym is) (turns_done asked text before after status ran no_write no_link)
 
 -- ---- `send`
 

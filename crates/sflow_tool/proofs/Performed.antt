@@ -11,29 +11,33 @@ use Rattle.report_lines.specs.HeaderLines.{ShownTaps, no_taps}
 use Rattle.sample_taps.specs.declared.brief.Brief.{Brief}
 use Rattle.sample_taps.specs.Feeding.{Held}
 use Rattle.command_words.specs.declared.command.Command.{Command}
-use Rattle.command_words.specs.declared.command.Command.TheVariants.{Replay, Show, Check, Canon, Pcap, Collect, Send}
+use Rattle.command_words.specs.declared.command.Command.TheVariants.{Replay, Show, Check, Canon, Pcap, Collect, Send, Relay, Agent}
 use Rattle.command_runs.specs.declared.status.Status.{Status}
 use Rattle.command_runs.specs.declared.status.Status.TheVariants.{Done, Found, Usage, ReadFault, WriteFault, BadInput, Memory, LinkFault, Spent}
 use Rattle.command_runs.specs.Acts.{Act}
 use Rattle.command_words.specs.declared.collection.Collection.{Collection}
-use Rattle.command_runs.specs.Grammars.{Grammar, captures, pcap_files}
+use Rattle.command_runs.specs.Grammars.{Grammar, captures, pcap_files, scripts}
 use Rattle.command_runs.specs.Outside.{Outside, outside}
 use Rattle.command_runs.specs.Readings.{Decides, HasOneEnding}
-use Rattle.command_runs.specs.Runs.{Runs}
+use Rattle.command_runs.specs.Runs.{Runs, lacked_first}
 use Rattle.command_runs.specs.Visits.{HasVisited}
 use Rattle.command_runs.proofs.Visited.{none_visited}
 use Rattle.command_runs.proofs.CaptureEndings.{captures_once}
 use Rattle.command_runs.proofs.Completed.{completed}
 use Rattle.command_runs.proofs.PcapEndings.{pcap_files_once}
+use Rattle.command_runs.proofs.ScriptEndings.{scripts_once}
+use Rattle.sflow_tool.specs.Agents.{agent_act}
 use Rattle.sflow_tool.specs.Canons.{canon_act}
 use Rattle.sflow_tool.specs.Checks.{check_act}
-use Rattle.sflow_tool.specs.Collects.{HasCome, received_of}
+use Rattle.sflow_tool.specs.Collects.{HasCome, collected_text, received_of}
 use Rattle.sflow_tool.specs.Sends.{Sends, send_act}
 use Rattle.sflow_tool.proofs.LinkRuns.{collect_lacks, collects_usage, completes_collect, completes_send, one_done, send_lacks, sends_usage}
 use Rattle.sflow_tool.proofs.CollectRuns.{none_at_memory}
 use Rattle.sflow_tool.specs.Pcaps.{pcap_act}
 use Rattle.sflow_tool.specs.Performances.{EndsBy, IsFed, Performs}
+use Rattle.sflow_tool.specs.Relays.{relayed_text}
 use Rattle.sflow_tool.specs.Replays.{briefs_in, replay_act}
+use Rattle.relay_out.specs.Routes.{Route}
 use Rattle.sflow_tool.specs.Shows.{show_act}
 use Rattle.sflow_tool.specs.Surroundings.{RunsBetween, RunsCollecting, Surroundings, surroundings}
 
@@ -63,7 +67,7 @@ collecting g a source sink source' sink' link taps taps' status ran = record { r
 pub lacks_between : {X : Type 0} (g : Grammar X) (a : Act X) (ends : Outside) → Runs g a ends ends Memory
 lacks_between g a ends = record {
   may = tt;
-  ends = λ input are told. tt;
+  ends = λ input are told. lacked_first refl;
   at_end = λ e. elim e [ inl e ↦ absurd cc | inr e ↦ absurd cc ];
   quiet = λ late not_done not_found not_failed. refl;
   early = λ first e. refl;
@@ -87,8 +91,10 @@ lacks_memory Show = lacks captures show_act
 lacks_memory (Check pad) = lacks captures (check_act pad)
 lacks_memory (Canon to) = lacks captures (canon_act to)
 lacks_memory (Pcap output) = lacks pcap_files (pcap_act output)
-lacks_memory (Collect asked) = collect_lacks asked
+lacks_memory (Collect asked) = collect_lacks asked (collected_text asked)
 lacks_memory (Send to) = send_lacks to
+lacks_memory (Relay asked routes) = λ before. ([], collect_lacks asked (relayed_text asked routes []) before)
+lacks_memory Agent = lacks scripts agent_act
 
 -- no command ends with `Usage`
 pub no_usage : (c : Command) (before after : Surroundings) → Performs c before after Usage → ⊥
@@ -97,8 +103,10 @@ no_usage Show before after ran = ran.ran.may
 no_usage (Check pad) before after ran = ran.ran.may
 no_usage (Canon to) before after ran = ran.ran.may
 no_usage (Pcap output) before after ran = ran.ran.may
-no_usage (Collect asked) before after ran = collects_usage asked before after ran
+no_usage (Collect asked) before after ran = collects_usage asked (collected_text asked) before after ran
 no_usage (Send to) before after ran = sends_usage to before after ran
+no_usage (Relay asked routes) before after ran = collects_usage asked (relayed_text asked routes ran.0) before after ran.1
+no_usage Agent before after ran = ran.ran.may
 
 -- an input makes a run of a command end in one way
 pub some_ending : (c : Command) (input : List ℕ) → AreBytes input → (ending : Status) × EndsBy c input ending
@@ -109,6 +117,8 @@ some_ending (Canon to) input are = captures_once.some (canon_act to) input are
 some_ending (Pcap output) input are = pcap_files_once.some (pcap_act output) input are
 some_ending (Collect asked) input are = (Done, refl)
 some_ending (Send to) input are = captures_once.some send_act input are
+some_ending (Relay asked routes) input are = (Done, refl)
+some_ending Agent input are = scripts_once.some agent_act input are
 
 pub one_ending : (c : Command) (input : List ℕ) (one other : Status) → AreBytes input → EndsBy c input one
     → EndsBy c input other → one ≡ other
@@ -119,6 +129,8 @@ one_ending (Canon to) = captures_once.one (canon_act to)
 one_ending (Pcap output) = pcap_files_once.one (pcap_act output)
 one_ending (Collect asked) = one_done
 one_ending (Send to) = captures_once.one send_act
+one_ending (Relay asked routes) = one_done
+one_ending Agent = scripts_once.one agent_act
 
 -- how an input makes a run end depends on what it finds alone
 decides_as : {X : Type 0} (g : Grammar X) (a b : Act X) → ((x : X) → b.finds x ≡ a.finds x) → (input : List ℕ)
@@ -165,8 +177,11 @@ completes Show = completes_between captures show_act captures_once
 completes (Check pad) = completes_between captures (check_act pad) captures_once
 completes (Canon to) = completes_between captures (canon_act to) captures_once
 completes (Pcap output) = completes_between pcap_files (pcap_act output) pcap_files_once
-completes (Collect asked) = completes_collect asked
+completes (Collect asked) = completes_collect asked (collected_text asked)
 completes (Send to) = completes_send to
+completes (Relay asked routes) = λ input before after status ending ran.
+    completes_collect asked (relayed_text asked routes ran.0) input before after status ending ran.1
+completes Agent = completes_between scripts agent_act scripts_once
 
 -- ---- what a run feeds the consumers
 
@@ -193,6 +208,15 @@ module _ {X : Type 0} (step : X → Brief → X → Type 0) (done : X → Bool) 
     held = come.were;
   }
 
+  pub fed_relay : (asked : Collection) (routes : List Route)
+      → HasCome (λ entries. Held step done (briefs_in asked.limits entries) xs ys) asked before.link after.link status
+      → IsFed step done (Relay asked routes) before after status xs ys
+  fed_relay asked routes come = record {
+    briefs = briefs_in asked.limits (received_of come.entries);
+    feeds = record { turns = come.turns; entries = come.entries; came = come.came; were = refl; turned = come.turned; left = come.left };
+    held = come.were;
+  }
+
 module _ {X : Type 0} (step : X → Brief → X → Type 0) (done : X → Bool) (before after : Surroundings) (xs : List X) where
   -- a command that doesn't collect gives no brief
   pub unfed_show : (status : Status) → IsFed step done Show before after status xs xs
@@ -210,6 +234,9 @@ module _ {X : Type 0} (step : X → Brief → X → Type 0) (done : X → Bool) 
   pub unfed_send : (status : Status) (to : List ℕ) → IsFed step done (Send to) before after status xs xs
   unfed_send status to = record { briefs = []; feeds = refl; held = refl }
 
+  pub unfed_agent : (status : Status) → IsFed step done Agent before after status xs xs
+  unfed_agent status = record { briefs = []; feeds = refl; held = refl }
+
 -- nor does a run that has no memory
 module _ {X : Type 0} (step : X → Brief → X → Type 0) (done : X → Bool) (before : Surroundings) (xs : List X) where
   pub unfed_memory : (c : Command) → IsFed step done c before before Memory xs xs
@@ -220,3 +247,5 @@ module _ {X : Type 0} (step : X → Brief → X → Type 0) (done : X → Bool) 
   unfed_memory (Pcap output) = unfed_pcap step done before before xs Memory output
   unfed_memory (Collect asked) = record { briefs = []; feeds = none_at_memory _ asked before.link refl; held = refl }
   unfed_memory (Send to) = unfed_send step done before before xs Memory to
+  unfed_memory (Relay asked routes) = record { briefs = []; feeds = none_at_memory _ asked before.link refl; held = refl }
+  unfed_memory Agent = unfed_agent step done before before xs Memory

@@ -10,8 +10,15 @@ use Rattle.datagram_links.specs.declared.received.Received.TheVariants as got
 use Rattle.books_spec.specs.declared.limits.Limits.{Limits}
 use Rattle.books_spec.specs.SampledHeaders.{HeaderedItem}
 use Rattle.books_spec.specs.Books.{most_entries}
+use Rattle.books_spec.specs.Items.{Item}
+use Rattle.wire_spec.specs.Heads.{AgentAddress}
+use Rattle.relay_out.specs.Routes.{AgentDatagram}
+use Rattle.sflow_tool.specs.Passing.{first_agent, with_agent}
 use Rattle.sample_taps.specs.declared.brief.Brief.{Brief}
-use Rattle.flow_collector.specs.Collectors.{CollectorState}
+use Rattle.data_format.specs.Addresses.{address_of}
+use Rattle.data_format.specs.declared.address.Address.{Address}
+use Rattle.flow_collector.specs.Collectors.{CollectorState, StandsFor}
+use Rattle.flow_collector.specs.Items.{item_in}
 use Rattle.flow_collector.specs.Gathering.{Gathered}
 use Rattle.sflow_tool.specs.Replays.{Collects, headered_received}
 use Rattle.sflow_tool.specs.Collects.{Came, TakesTurn, TookTurns, TurnFailed, received_of, received_some}
@@ -38,6 +45,16 @@ came_one told len at room long gives t is =
         ap (λ n. take n room) len_is ∙ g.1 ∙ ap (λ n. take n e.bytes) long in
         λ j. record { arrival = at_is j; bytes = bytes_are j } ∷ []
 
+-- the answer to a datagram is its agent, where it is First
+pub told_first : (answer : Option Address) (agent : Address) (bytes : List ℕ) → answer ≡ Some agent
+    → ◌≡◌ {A = List AgentDatagram} (with_agent (option_map address_of answer) bytes)
+    (record { agent = address_of agent; bytes = bytes } ∷ [])
+told_first answer agent bytes is = ap (λ (o : Option Address). with_agent (option_map address_of o) bytes) is
+
+pub told_none : (answer : Option Address) (bytes : List ℕ) → answer ≡ None
+    → with_agent (option_map address_of answer) bytes ≡ []
+told_none answer bytes is = ap (λ (o : Option Address). with_agent (option_map address_of o) bytes) is
+
 -- nothing came: neither does a datagram among the first of the items
 pub came_quiet : (told : Option LinkTold) (room : List ℕ) → IfSome told (λ t. GivesNext t.items got.Quiet room)
     → (t : LinkTold) → told ≡ Some t → ◌≡◌ {A = List Entry} [] (datagrams_in 65535 (take 1 t.items))
@@ -59,27 +76,35 @@ module _ {X : Type 0} (step : X → Brief → X → Type 0) (done : X → Bool) 
       → ((m : Limits) (items : List HeaderedItem) (us : List X) → length items < most_entries
       → Gathered step done old m items us ys
       → Gathered step done new m (headered_received (sent_by None (record { arrival = at; bytes = take len room })) ∷ items) us zs)
-      → left' ≡ left → TakesTurn step done old new ys zs left left' shown
-  got_turn len at long gives takes kept = record {
+      → left' ≡ left → (first : List AgentDatagram) (agent : Option AgentAddress)
+      → ((l : Limits) (before : List Item) → StandsFor old.books l before
+      → agent ≡ first_agent l before (item_in at (take len room)))
+      → with_agent agent (take len room) ≡ first
+      → TakesTurn step done old new ys zs left left' shown first
+  got_turn len at long gives takes kept first agent answers is = record {
     came = record { arrival = at; bytes = take len room } ∷ [];
     are = λ t is. came_one told len at room long gives t is;
     few = omega arith;
     takes = λ l xs all entries few so_far.
         one_taken step done l old new xs ys zs all left left' entries
         (sent_by None (record { arrival = at; bytes = take len room })) few so_far takes kept;
+    goes_on = λ l before stands.
+        append-nil (with_agent (first_agent l before (item_in at (take len room))) (take len room))
+        ∙ ap (λ (a : Option AgentAddress). with_agent a (take len room)) (sym (answers l before stands)) ∙ is;
   }
 
 module _ {X : Type 0} (step : X → Brief → X → Type 0) (done : X → Bool) (old : CollectorState) (ys : List X)
     (left : ℕ) (told : Option LinkTold) (faults : ℕ) (room : List ℕ) where
   -- there was none
   pub quiet_turn : IfSome told (λ t. GivesNext t.items got.Quiet room)
-      → TakesTurn step done old old ys ys left left (record { told = told; faults = faults })
+      → TakesTurn step done old old ys ys left left (record { told = told; faults = faults }) []
   quiet_turn gives = record {
     came = [];
     are = λ t is. came_quiet told room gives t is;
     few = omega arith;
     takes = λ l xs all entries few so_far.
         subst (Collects step done l old xs ys all left) (sym (append-nil entries)) so_far;
+    goes_on = λ l before stands. refl;
   }
 
 -- ---- many receives
@@ -136,20 +161,31 @@ no_turns takes link none = record {
   link_is = received_none link.told link.faults;
 }
 
-pub one_turn : {X : Type 0} (step : X → Brief → X → Type 0) (done : X → Bool) (l : Limits) (old new : CollectorState)
-    (xs ys zs : List X) (all left left' : ℕ) (link now now' : LinkSeen) (count : ℕ) → count < 2 ^ 48
-    → TurnsSoFar (Collects step done l old xs ys all left) link now count
-    → TakesTurn step done old new ys zs left left' now → now' ≡ received_one now
-    → TurnsSoFar (Collects step done l new xs zs all left') link now' (count + 1)
-one_turn step done l old new xs ys zs all left left' link now now' count many far turn is = record {
-  entries = far.entries ++ turn.came;
-  came = came_more link now count far.entries turn.came far.link_is far.came turn.are;
-  few = omega (arith, far.few, turn.few, length-append far.entries turn.came);
-  were = subst (Collects step done l new xs zs all left') (sym (map-append (sent_by None) far.entries turn.came))
-      (turn.takes l xs all (received_of far.entries)
-      (omega (arith, many, far.few, length-map far.entries (sent_by None))) far.were);
+-- one more receive went well, and what came was taken
+pub one_more : (takes takes' : List Received → Type 0) (link now now' : LinkSeen) (count : ℕ) (came : List Entry)
+    → Came now 1 came → length came ≤ 1 → (far : TurnsSoFar takes link now count)
+    → takes' (received_of far.entries ++ received_of came) → now' ≡ received_one now → TurnsSoFar takes' link now' (count + 1)
+one_more takes takes' link now now' count came are few far were is = record {
+  entries = far.entries ++ came;
+  came = came_more link now count far.entries came far.link_is far.came are;
+  few = omega (arith, far.few, few, length-append far.entries came);
+  were = subst takes' (sym (map-append (sent_by None) far.entries came)) were;
   link_is = is ∙ ap received_one far.link_is ∙ received_more count link.told link.faults;
 }
+
+-- the entries so far are fewer than a collector takes
+pub few_so_far : (takes : List Received → Type 0) (link now : LinkSeen) (count : ℕ) → count < 2 ^ 48
+    → (far : TurnsSoFar takes link now count) → length (received_of far.entries) < 2 ^ 48
+few_so_far takes link now count many far = omega (arith, many, far.few, length-map far.entries (sent_by None))
+
+pub one_turn : {X : Type 0} (step : X → Brief → X → Type 0) (done : X → Bool) (l : Limits) (old new : CollectorState)
+    (xs ys zs : List X) (all left left' : ℕ) (link now now' : LinkSeen) (first : List AgentDatagram) (count : ℕ)
+    → count < 2 ^ 48 → TurnsSoFar (Collects step done l old xs ys all left) link now count
+    → TakesTurn step done old new ys zs left left' now first → now' ≡ received_one now
+    → TurnsSoFar (Collects step done l new xs zs all left') link now' (count + 1)
+one_turn step done l old new xs ys zs all left left' link now now' first count many far turn is =
+    one_more _ (Collects step done l new xs zs all left') link now now' count turn.came turn.are turn.few far
+    (turn.takes l xs all (received_of far.entries) (few_so_far _ link now count many far) far.were) is
 
 -- all of them did
 pub all_turned : (takes : List Received → Type 0) (link now : LinkSeen) (count turns : ℕ) → count ≡ turns

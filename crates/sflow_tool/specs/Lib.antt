@@ -4,8 +4,14 @@ pub mod Checks
 pub mod Canons
 pub mod Replays
 pub mod Pcaps
+pub mod ScriptBoots
+pub mod ScriptRuns
+pub mod Agents
+pub mod AgentWalks
 pub mod Surroundings
+pub mod Passing
 pub mod Collects
+pub mod Relays
 pub mod Sends
 pub mod Performances
 pub mod Headlines

@@ -1,19 +1,21 @@
 -- The commands' rows: the form of input that each reads, and what it does with it.
 use Rattle.std.specs.Prelude.{◌≡◌, ℕ, Bool, List, []}
 use Rattle.command_words.specs.declared.command.Command.{Command}
-use Rattle.command_words.specs.declared.command.Command.TheVariants.{Replay, Show, Check, Canon, Pcap, Collect, Send}
+use Rattle.command_words.specs.declared.command.Command.TheVariants.{Replay, Show, Check, Canon, Pcap, Collect, Send, Relay, Agent}
 use Rattle.command_runs.specs.declared.status.Status.{Status}
 use Rattle.command_runs.specs.declared.status.Status.TheVariants.{Done}
-use Rattle.command_runs.specs.Grammars.{captures, pcap_files}
+use Rattle.command_runs.specs.Grammars.{captures, pcap_files, scripts}
 use Rattle.command_runs.specs.Readings.{Decides}
 use Rattle.command_runs.specs.Visits.{HasVisited}
 use Rattle.report_lines.specs.HeaderLines.{no_taps}
 use Rattle.sample_taps.specs.declared.brief.Brief.{Brief}
 use Rattle.sample_taps.specs.Feeding.{Held}
+use Rattle.sflow_tool.specs.Agents.{agent_act}
 use Rattle.sflow_tool.specs.Canons.{canon_act}
 use Rattle.sflow_tool.specs.Checks.{check_act}
-use Rattle.sflow_tool.specs.Collects.{CollectsOver, HasCome}
+use Rattle.sflow_tool.specs.Collects.{CollectsOver, HasCome, collected_text}
 use Rattle.sflow_tool.specs.Pcaps.{pcap_act}
+use Rattle.sflow_tool.specs.Relays.{RelaysSo}
 use Rattle.sflow_tool.specs.Replays.{briefs_in, replay_act}
 use Rattle.sflow_tool.specs.Sends.{Sends, send_act}
 use Rattle.sflow_tool.specs.Shows.{show_act}
@@ -26,8 +28,10 @@ Performs Show = RunsBetween captures show_act
 Performs (Check pad) = RunsBetween captures (check_act pad)
 Performs (Canon to) = RunsBetween captures (canon_act to)
 Performs (Pcap output) = RunsBetween pcap_files (pcap_act output)
-Performs (Collect asked) = CollectsOver asked
+Performs (Collect asked) = CollectsOver asked (collected_text asked)
 Performs (Send to) = Sends to
+Performs (Relay asked routes) = RelaysSo asked routes
+Performs Agent = RunsBetween scripts agent_act
 
 -- The input alone makes a run of the command end so, if no call fails and memory is there. What the consumers show doesn't
 -- matter for that. What reads no input does its work, whatever the link gives.
@@ -39,6 +43,8 @@ EndsBy (Canon to) = Decides captures (canon_act to)
 EndsBy (Pcap output) = Decides pcap_files (pcap_act output)
 EndsBy (Collect asked) = λ input ending. ending ≡ Done
 EndsBy (Send to) = Decides captures send_act
+EndsBy (Relay asked routes) = λ input ending. ending ≡ Done
+EndsBy Agent = Decides scripts agent_act
 
 -- The briefs of a run of the command: those of the entries that came before it ended, where it collects, and else none.
 abbrev pub Feeds : Command → Surroundings → Surroundings → Status → List Brief → Type 0
@@ -51,6 +57,9 @@ Feeds (Pcap output) before after status briefs = briefs ≡ []
 Feeds (Collect asked) before after status briefs =
     HasCome (λ entries. briefs ≡ briefs_in asked.limits entries) asked before.link after.link status
 Feeds (Send to) before after status briefs = briefs ≡ []
+Feeds (Relay asked routes) before after status briefs =
+    HasCome (λ entries. briefs ≡ briefs_in asked.limits entries) asked before.link after.link status
+Feeds Agent before after status briefs = briefs ≡ []
 
 -- of the consumers that were handed in, those are held that the briefs of the run leave
 pub record IsFed {X : Type 0} (step : X → Brief → X → Type 0) (done : X → Bool) (c : Command) (before after : Surroundings)

@@ -135,7 +135,11 @@ fn put_whole<K: Sink>(
     put_canonical(page, sink, room, at, from, bytes)
 }
 
-fn put_header<K: Sink>(page: &mut Page, sink: &mut K, version: CaptureVersion) -> Result<(), Failed>
+pub(crate) fn put_header<K: Sink>(
+    page: &mut Page,
+    sink: &mut K,
+    version: CaptureVersion,
+) -> Result<(), Failed>
     ensures { Prints (K.seen sink.old) (K.seen sink.new) page.old page.new result (version_header version) }
 {
     match version {
@@ -211,7 +215,12 @@ fn head_of(at: u64, len: u32) -> [u8; 12]
 }
 
 // An entry of version 1.
-fn put_entry<K: Sink>(page: &mut Page, sink: &mut K, at: u64, bytes: &[u8]) -> Result<(), Failed>
+pub(crate) fn put_entry<K: Sink>(
+    page: &mut Page,
+    sink: &mut K,
+    at: u64,
+    bytes: &[u8],
+) -> Result<(), Failed>
     requires { length bytes.now ≤ 65535 }
     ensures { Prints (K.seen sink.old) (K.seen sink.new) page.old page.new result
         (entry_bytes (record { arrival = at; bytes = bytes.now })) }

@@ -1,5 +1,5 @@
 // `collect`: the report of the datagrams that come over a link.
-ghost use Rattle.std.specs.Prelude.{◌≡◌, ◌+◌, ◌<◌, ◌^◌, [], OnErr, OnOk, length, vec_len};
+ghost use Rattle.std.specs.Prelude.{◌≡◌, ◌+◌, ◌<◌, ◌≤◌, ◌^◌, [], IfOk, IfSome, OnErr, length, vec_len};
 ghost use Rattle.byte_ends.specs.Seen.{Seen};
 ghost use Rattle.datagram_links.specs.Links.{Makes, received_one};
 ghost use Rattle.books_spec.specs.Limits.{AreLawful};
@@ -7,13 +7,15 @@ ghost use Rattle.sample_taps.specs.Classes.{no_classes};
 ghost use Rattle.sample_taps.specs.Feeding.{Held};
 ghost use Rattle.flow_collector.specs.Collectors.{StandsFor};
 ghost use Rattle.report_lines.specs.HeaderLines.{shown_taps};
-ghost use Rattle.sflow_tool.specs.Collects.{CollectsOver, HasCome, TakesTurn, TurnsEnd};
+ghost use Rattle.sflow_tool.specs.Collects.{CollectsOver, HasCome, TakesTurn, TurnsEnd, collected_text};
+ghost use Rattle.sflow_tool.specs.Passing.{first_in};
 ghost use Rattle.sflow_tool.specs.Replays.{Collects, briefs_in};
 ghost use Rattle.sflow_tool.specs.Surroundings.{surroundings};
 
 use crate::replay::{finish, take_entry};
 use command_runs::{Status, new_room};
 use command_words::Collection;
+use data_format::Address;
 use datagram_links::{Link, Received};
 use flow_collector::{Collector, Seeds};
 use sample_taps::{Tap, Taps};
@@ -33,7 +35,7 @@ pub(crate) fn collect<K: Sink, L: Link>(
 ) -> Status
     requires lawful { AreLawful asked.now.limits }
     requires few { taps.old.ended + vec_len taps.old.held < 2 ^ 64 }
-    ensures runs { (source : Seen) → CollectsOver asked.now (surroundings source (K.seen sink.old) (L.seen link.old)
+    ensures runs { (source : Seen) → CollectsOver asked.now (collected_text asked.now) (surroundings source (K.seen sink.old) (L.seen link.old)
         (shown_taps (λ x. (⟦<dyn Tap as Tap>⟧ x.vtable).text x.value) taps.old.held.items taps.old.ended))
         (surroundings source (K.seen sink.new) (L.seen link.new)
         (shown_taps (λ x. (⟦<dyn Tap as Tap>⟧ x.vtable).text x.value) taps.new.held.items taps.new.ended)) result }
@@ -77,35 +79,43 @@ fn receive_turns<L: Link>(
     ensures ended { taps.new.ended + vec_len taps.new.held ≡ taps.old.ended + vec_len taps.old.held }
 {
     for count in 0..turns {
-        let Ok(()) = receive_one(link, room, collector, taps) else {
+        let Ok(_) = receive_one(link, room, collector, taps) else {
             return Err(Failed);
         };
     }
     Ok(())
 }
 
-// Receives once, and takes the datagram if one comes.
-fn receive_one<L: Link>(
+// A datagram that is First: its agent, and how many bytes it has.
+#[derive(Clone, Copy, Debug)]
+pub(crate) struct FirstDatagram {
+    pub agent: Address,
+    pub len: usize,
+}
+
+// Receives once, and takes the datagram if one comes. The answer is that of a datagram that is First; it stands in the room.
+pub(crate) fn receive_one<L: Link>(
     link: &mut L,
     room: &mut [u8],
     collector: &mut Collector,
     taps: &mut Taps,
-) -> Result<(), Failed>
+) -> Result<Option<FirstDatagram>, Failed>
     requires room { length room.old ≡ 65535 }
     requires few { taps.old.ended + vec_len taps.old.held < 2 ^ 64 }
     ensures moves { Makes (L.seen link.old) (received_one (L.seen link.old)) (L.seen link.new) result }
-    ensures turn { OnOk result (TakesTurn (λ x b y. (v : _) × (y ≡ record x { value = v }) × (⟦<dyn Tap as Tap>⟧ x.vtable).step x.value b v)
+    ensures turn { IfOk result (λ first. TakesTurn (λ x b y. (v : _) × (y ≡ record x { value = v }) × (⟦<dyn Tap as Tap>⟧ x.vtable).step x.value b v)
         (λ x. (⟦<dyn Tap as Tap>⟧ x.vtable).ended x.value) collector.old collector.new taps.old.held.items taps.new.held.items
-        (taps.old.ended + vec_len taps.old.held) (taps.new.ended + vec_len taps.new.held) (L.seen link.old)) }
+        (taps.old.ended + vec_len taps.old.held) (taps.new.ended + vec_len taps.new.held) (L.seen link.old) (first_in room.new first)) }
+    ensures fits { IfOk result (λ first. IfSome first (λ f. f.len ≤ length room.new)) }
     ensures failed { OnErr result ((collector.new ≡ collector.old) × (taps.new ≡ taps.old)) }
     ensures ended { taps.new.ended + vec_len taps.new.held ≡ taps.old.ended + vec_len taps.old.held }
 {
     match link.receive(room) {
-        Ok(Received::Got { len, at }) => {
-            take_entry(collector, at, &room[..len], taps);
-            Ok(())
-        }
-        Ok(Received::Quiet) => Ok(()),
+        Ok(Received::Got { len, at }) => match take_entry(collector, at, &room[..len], taps) {
+            Some(agent) => Ok(Some(FirstDatagram { agent, len })),
+            None => Ok(None),
+        },
+        Ok(Received::Quiet) => Ok(None),
         Err(_) => Err(Failed),
     }
 }

@@ -1,5 +1,6 @@
 // `replay`: the report of a capture.
-ghost use Rattle.std.specs.Prelude.{◌≡◌, ◌≤◌, ◌+◌, ◌<◌, ◌^◌, ◌++◌, [], ◌∷◌, List, length, vec_len};
+ghost use Rattle.std.specs.Prelude.{◌≡◌, ◌≤◌, ◌+◌, ◌<◌, ◌^◌, ◌++◌, [], ◌∷◌, List, length, option_map, vec_len};
+ghost use Rattle.data_format.specs.Addresses.{address_of};
 ghost use Rattle.books_spec.specs.Items.{Item};
 ghost use Rattle.books_spec.specs.SampledHeaders.{HeaderedItem};
 ghost use Rattle.books_spec.specs.WholeBooks.{whole_books};
@@ -11,6 +12,8 @@ ghost use Rattle.sample_taps.specs.Feeding.{Held};
 ghost use Rattle.flow_collector.specs.Collectors.{StandsFor};
 ghost use Rattle.flow_collector.specs.Gathering.{Gathered};
 ghost use Rattle.flow_collector.specs.Headers.{headered_entry};
+ghost use Rattle.flow_collector.specs.Items.{item_in};
+ghost use Rattle.flow_collector.specs.Steps.{is_first};
 ghost use Rattle.report_lines.specs.HeaderLines.{shown_taps};
 ghost use Rattle.report_lines.specs.InterfaceLines.{report_with};
 ghost use Rattle.command_runs.specs.Endings.{Flushed};
@@ -19,12 +22,14 @@ ghost use Rattle.command_runs.specs.Outside.{outside};
 ghost use Rattle.command_runs.specs.Runs.{Runs};
 ghost use Rattle.command_runs.specs.Visits.{HasVisited};
 ghost use Rattle.command_runs.specs.Walks.{IsFresh};
+ghost use Rattle.sflow_tool.specs.Passing.{agent_where, first_agent};
 ghost use Rattle.sflow_tool.specs.Replays.{Collects, HasTakeCause, LeavesAtEnd, Took, briefs_in, replay_act};
 
 use crate::report::put_report;
 use command_runs::{Status, flush, new_room, status_of};
+use data_format::Address;
 use datagram_core::Datagram;
-use flow_collector::{Collector, Limits, Seeds};
+use flow_collector::{Collector, Limits, Seeds, Taken};
 use sample_taps::{Tap, Taps};
 use sflow_io::{CaptureReader, Next, ReadRefusal, Sink, Source};
 use std::alloc::Global;
@@ -121,22 +126,38 @@ fn take_entries<S: Source>(
     unreachable!()
 }
 
-// Takes an entry, a datagram or none, whatever its padding is.
-pub(crate) fn take_entry(collector: &mut Collector, at: u64, bytes: &[u8], taps: &mut Taps)
+// Takes an entry, a datagram or none, whatever its padding is. The answer is the agent of a datagram that is First.
+pub(crate) fn take_entry(
+    collector: &mut Collector,
+    at: u64,
+    bytes: &[u8],
+    taps: &mut Taps,
+) -> Option<Address>
     requires { taps.old.ended + vec_len taps.old.held < 2 ^ 64 }
     ensures gathers { (l : Limits) (items : List HeaderedItem) (xs : _) → length items < most_entries
         → Gathered (λ x b y. (v : _) × (y ≡ record x { value = v }) × (⟦<dyn Tap as Tap>⟧ x.vtable).step x.value b v)
         (λ x. (⟦<dyn Tap as Tap>⟧ x.vtable).ended x.value) collector.old l items xs taps.old.held.items
         → Gathered (λ x b y. (v : _) × (y ≡ record x { value = v }) × (⟦<dyn Tap as Tap>⟧ x.vtable).step x.value b v)
         (λ x. (⟦<dyn Tap as Tap>⟧ x.vtable).ended x.value) collector.new l (headered_entry at bytes.now ∷ items) xs taps.new.held.items }
+    ensures first { (l : Limits) (items : List Item) → StandsFor collector.old.books l items
+        → option_map address_of result ≡ first_agent l items (item_in at bytes.now) }
     ensures ended { taps.new.ended + vec_len taps.new.held ≡ taps.old.ended + vec_len taps.old.held }
 {
     match Datagram::parse(bytes, Pad::Any) {
-        Ok(datagram) => {
-            collector.take(at, &datagram, taps);
-        }
+        Ok(datagram) => agent_of(collector.take(at, &datagram, taps), &datagram),
         Err(fault) => {
             collector.reject(&fault);
+            None
         }
+    }
+}
+
+// The agent of a datagram that was taken so, where it is First.
+fn agent_of(taken: Taken, datagram: &Datagram<'_>) -> Option<Address>
+    ensures { option_map address_of result ≡ agent_where (is_first taken) datagram.now.head.agent }
+{
+    match taken {
+        Taken::First => Some(datagram.head().agent),
+        _ => None,
     }
 }

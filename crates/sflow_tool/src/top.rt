@@ -1,4 +1,4 @@
-ghost use Rattle.std.specs.Prelude.{◌≡◌, ◌+◌, ◌<◌, ◌^◌, ◌⊎◌, ◌↔◌, ℕ, Bool, List, None, Some, map, take, string_bytes, vec_len};
+ghost use Rattle.std.specs.Prelude.{◌≡◌, ◌+◌, ◌<◌, ◌≤◌, ◌^◌, ◌++◌, ◌⊎◌, ◌↔◌, ℕ, Bool, false, List, None, Some, map, take, string_bytes, vec_len};
 ghost use Rattle.byte_ends.specs.Seen.{Rose, Takes};
 ghost use Rattle.wire_spec.specs.Bytes.{AreBytes};
 ghost use Rattle.account_spec.specs.Histories.{SubAgent};
@@ -10,25 +10,33 @@ ghost use Rattle.datagram_links.specs.Links.{LinkTold, datagrams_in};
 ghost use Rattle.command_words.specs.declared.collection.Collection.{Collection};
 ghost use Rattle.sflow_tool.specs.Headlines.{IsCollected, IsDelivered};
 ghost use Rattle.books_spec.specs.declared.limits.Limits.{Limits};
-ghost use Rattle.command_words.specs.Commands.{HasLawfulLimits, command_of};
+ghost use Rattle.command_words.specs.Commands.{HasLawfulLimits, command_for, receivers_needed};
+ghost use Rattle.relay_out.specs.Lines.{relay_text};
+ghost use Rattle.relay_out.specs.Routes.{Route};
+ghost use Rattle.relay_out.specs.Runs.{RunServed};
+ghost use Rattle.sflow_tool.specs.Passing.{first_in_time};
 ghost use Rattle.sflow_tool.specs.Surroundings.{surroundings};
 ghost use Rattle.sflow_tool.specs.Performances.{EndsBy, IsFed, Performs};
+ghost use Rattle.sflow_tool.specs.Relays.{Relayed, RelaysOver, relays};
 ghost use Rattle.sample_taps.specs.Feeding.{Held};
 ghost use Rattle.delivered_items.specs.AccountHeaders.{account_briefs, account_classes};
 ghost use Rattle.command_words.specs.declared.command.Command.{Command};
 ghost use Rattle.command_runs.specs.declared.status.Status.{Status as Ending};
 
+use crate::agent::agent;
 use crate::canon::canon;
 use crate::check::check;
 use crate::collect::collect;
 use crate::pcap::pcap;
+use crate::relay::relay;
 use crate::replay::replay;
 use crate::send::send;
 use crate::show::show;
 use command_runs::Status;
 use command_words::{Command as Asked, WordsRefusal, read_words};
-use datagram_links::Link;
+use datagram_links::{Link, Receiver};
 use flow_collector::Seeds;
+use relay_out::Receivers;
 use sample_taps::{Tap, Taps};
 use sflow_io::{Sink, Source};
 use std::alloc::Global;
@@ -53,10 +61,18 @@ use std::alloc::Global;
 /// `collect` listens at a place, makes `--turns` receives and writes the report of the datagrams that came, as `replay`
 /// does of a capture's entries; a receive that gives nothing for a while counts as well. `--listen` names the place, and
 /// else it is port 6343 of all addresses; limits, `--interfaces` and consumers are as for `replay`.
+/// `relay` does what `collect` does, and passes each datagram on that is the first of its number, as soon as it comes.
+/// `--routes` says which agent's datagrams go where: route number K is for receiver number K, which is aimed at the route's
+/// place after the link listens and before the first receive. A receiver that fails is stopped, and changes no status. Behind
+/// the report stands a line for each route. More routes than there are receivers are `Usage`.
 /// `send` reads a capture, sends the bytes of each entry to the place that `--to` names, and else to port 6343 of this
-/// machine, and then writes how many it sent. No other command uses the link; one call of it that fails ends the run with
-/// `LinkFault`, and then nothing is written.
-/// All memory is taken before the first byte is read or written, and before the link is used.
+/// machine, and then writes how many it sent. No other command uses the link, and none but `relay` a receiver; one call of the
+/// link that fails ends the run with `LinkFault`, and then nothing is written.
+/// `agent` reads a script and writes a capture of version 1 with the datagrams that its sub-agents send, in the order of
+/// its lines, each with the arrival of its boot and its uptime. A line that breaks a rule ends the run with `BadInput` at
+/// the number of that line. Where reading ends early, the capture has what the lines before send, and nothing is written
+/// where they send nothing. Memory may be lacking at any line.
+/// Every other command takes all memory before the first byte is read or written, and before the link or a receiver is used.
 pub fn run<S: Source, K: Sink, L: Link>(
     alloc: Global,
     words: &[String],
@@ -65,23 +81,24 @@ pub fn run<S: Source, K: Sink, L: Link>(
     sink: &mut K,
     link: &mut L,
     taps: &mut Taps,
+    receivers: &mut Receivers,
 ) -> Status
     requires { taps.old.ended + vec_len taps.old.held < 2 ^ 64 }
 
     // The words name a command, or nothing is touched.
-    ensures usage { (result ≡ Status.Usage) ↔ (command_of (map string_bytes words.now) ≡ None) }
+    ensures usage { (result ≡ Status.Usage) ↔ (command_for (vec_len receivers.old.held) (map string_bytes words.now) ≡ None) }
     ensures untouched { result ≡ Status.Usage → (source.new ≡ source.old) × (sink.new ≡ sink.old) × (link.new ≡ link.old)
-        × (taps.new ≡ taps.old) }
+        × (taps.new ≡ taps.old) × (receivers.new ≡ receivers.old) }
 
     // What the command that they name does.
-    ensures runs { (c : Command) → command_of (map string_bytes words.now) ≡ Some c
+    ensures runs { (c : Command) → command_for (vec_len receivers.old.held) (map string_bytes words.now) ≡ Some c
         → Performs c (surroundings (S.seen source.old) (K.seen sink.old) (L.seen link.old)
         (shown_taps (λ x. (⟦<dyn Tap as Tap>⟧ x.vtable).text x.value) taps.old.held.items taps.old.ended))
         (surroundings (S.seen source.new) (K.seen sink.new) (L.seen link.new)
         (shown_taps (λ x. (⟦<dyn Tap as Tap>⟧ x.vtable).text x.value) taps.new.held.items taps.new.ended)) result }
 
     // The consumers that are held are those that the briefs of the run leave, and the others were counted.
-    ensures fed { (c : Command) → command_of (map string_bytes words.now) ≡ Some c
+    ensures fed { (c : Command) → command_for (vec_len receivers.old.held) (map string_bytes words.now) ≡ Some c
         → IsFed (λ x b y. (v : _) × (y ≡ record x { value = v }) × (⟦<dyn Tap as Tap>⟧ x.vtable).step x.value b v)
         (λ x. (⟦<dyn Tap as Tap>⟧ x.vtable).ended x.value) c (surroundings (S.seen source.old) (K.seen sink.old) (L.seen link.old)
         (shown_taps (λ x. (⟦<dyn Tap as Tap>⟧ x.vtable).text x.value) taps.old.held.items taps.old.ended))
@@ -90,10 +107,25 @@ pub fn run<S: Source, K: Sink, L: Link>(
         taps.old.held.items taps.new.held.items }
     ensures ended { taps.new.ended + vec_len taps.new.held ≡ taps.old.ended + vec_len taps.old.held }
 
+    // What `relay` writes, and what it makes of the receivers; other commands leave them.
+    ensures relay_lines { (asked : Collection) (routes : List Route)
+        → command_for (vec_len receivers.old.held) (map string_bytes words.now) ≡ Some (Command.Relay asked routes)
+        → RelaysOver asked routes receivers.new.progress (surroundings (S.seen source.old) (K.seen sink.old) (L.seen link.old)
+        (shown_taps (λ x. (⟦<dyn Tap as Tap>⟧ x.vtable).text x.value) taps.old.held.items taps.old.ended))
+        (surroundings (S.seen source.new) (K.seen sink.new) (L.seen link.new)
+        (shown_taps (λ x. (⟦<dyn Tap as Tap>⟧ x.vtable).text x.value) taps.new.held.items taps.new.ended)) result }
+    ensures relayed { (asked : Collection) (routes : List Route)
+        → command_for (vec_len receivers.old.held) (map string_bytes words.now) ≡ Some (Command.Relay asked routes)
+        → Relayed (λ x. (⟦<dyn Receiver as Receiver>⟧ x.vtable).seen x.value) asked routes
+        (L.seen link.old) (L.seen link.new) result receivers.old.held.items receivers.old.progress
+        receivers.new.held.items receivers.new.progress }
+    ensures unrelayed { (c : Command) → command_for (vec_len receivers.old.held) (map string_bytes words.now) ≡ Some c → relays c ≡ false
+        → receivers.new ≡ receivers.old }
+
     // Where a capture delivers what agents sent and the premises hold, a report that is written is that of their account.
     ensures headline { (limits : Limits) (interfaces : Bool) (history : List SubAgent) (deliveries : List Delivery)
         (input : List ℕ)
-        → command_of (map string_bytes words.now) ≡ Some (Command.Replay limits interfaces)
+        → command_for (vec_len receivers.old.held) (map string_bytes words.now) ≡ Some (Command.Replay limits interfaces)
         → AreBytes input → (S.seen source.old).told ≡ Some input → IsDelivered limits history deliveries input
         → result ≡ Status.Done
         → Takes (K.seen sink.old) (K.seen sink.new) (report_with interfaces (account limits history deliveries)
@@ -103,7 +135,7 @@ pub fn run<S: Source, K: Sink, L: Link>(
     // The consumers that are held then are those that the briefs of the account leave.
     ensures headline_briefs { (limits : Limits) (interfaces : Bool) (history : List SubAgent) (deliveries : List Delivery)
         (input : List ℕ)
-        → command_of (map string_bytes words.now) ≡ Some (Command.Replay limits interfaces)
+        → command_for (vec_len receivers.old.held) (map string_bytes words.now) ≡ Some (Command.Replay limits interfaces)
         → AreBytes input → (S.seen source.old).told ≡ Some input → IsDelivered limits history deliveries input
         → result ≡ Status.Done
         → Held (λ x b y. (v : _) × (y ≡ record x { value = v }) × (⟦<dyn Tap as Tap>⟧ x.vtable).step x.value b v)
@@ -112,7 +144,7 @@ pub fn run<S: Source, K: Sink, L: Link>(
 
     // The same of what comes over a link.
     ensures collected { (asked : Collection) (history : List SubAgent) (deliveries : List Delivery) (told : LinkTold)
-        → command_of (map string_bytes words.now) ≡ Some (Command.Collect asked)
+        → command_for (vec_len receivers.old.held) (map string_bytes words.now) ≡ Some (Command.Collect asked)
         → (L.seen link.old).told ≡ Some told
         → IsCollected asked.limits history deliveries (datagrams_in 65535 (take asked.turns told.items))
         → result ≡ Status.Done
@@ -121,7 +153,7 @@ pub fn run<S: Source, K: Sink, L: Link>(
         (shown_taps (λ x. (⟦<dyn Tap as Tap>⟧ x.vtable).text x.value) taps.new.held.items taps.new.ended)) }
 
     ensures collected_briefs { (asked : Collection) (history : List SubAgent) (deliveries : List Delivery) (told : LinkTold)
-        → command_of (map string_bytes words.now) ≡ Some (Command.Collect asked)
+        → command_for (vec_len receivers.old.held) (map string_bytes words.now) ≡ Some (Command.Collect asked)
         → (L.seen link.old).told ≡ Some told
         → IsCollected asked.limits history deliveries (datagrams_in 65535 (take asked.turns told.items))
         → result ≡ Status.Done
@@ -129,9 +161,41 @@ pub fn run<S: Source, K: Sink, L: Link>(
         (λ x. (⟦<dyn Tap as Tap>⟧ x.vtable).ended x.value) (account_briefs asked.limits deliveries)
         taps.old.held.items taps.new.held.items }
 
+    // The same for `relay`, with the lines of the receivers behind the report.
+    ensures relay_collected { (asked : Collection) (routes : List Route) (history : List SubAgent) (deliveries : List Delivery)
+        (told : LinkTold)
+        → command_for (vec_len receivers.old.held) (map string_bytes words.now) ≡ Some (Command.Relay asked routes)
+        → (L.seen link.old).told ≡ Some told
+        → IsCollected asked.limits history deliveries (datagrams_in 65535 (take asked.turns told.items))
+        → result ≡ Status.Done
+        → Takes (K.seen sink.old) (K.seen sink.new) (report_with asked.interfaces (account asked.limits history deliveries)
+        (account_classes asked.limits deliveries)
+        (shown_taps (λ x. (⟦<dyn Tap as Tap>⟧ x.vtable).text x.value) taps.new.held.items taps.new.ended)
+        ++ relay_text routes receivers.new.progress) }
+
+    ensures relay_briefs { (asked : Collection) (routes : List Route) (history : List SubAgent) (deliveries : List Delivery)
+        (told : LinkTold)
+        → command_for (vec_len receivers.old.held) (map string_bytes words.now) ≡ Some (Command.Relay asked routes)
+        → (L.seen link.old).told ≡ Some told
+        → IsCollected asked.limits history deliveries (datagrams_in 65535 (take asked.turns told.items))
+        → result ≡ Status.Done
+        → Held (λ x b y. (v : _) × (y ≡ record x { value = v }) × (⟦<dyn Tap as Tap>⟧ x.vtable).step x.value b v)
+        (λ x. (⟦<dyn Tap as Tap>⟧ x.vtable).ended x.value) (account_briefs asked.limits deliveries)
+        taps.old.held.items taps.new.held.items }
+
+    // What goes on then is each datagram that was delivered in time, once, and no other.
+    ensures relay_delivered { (asked : Collection) (routes : List Route) (history : List SubAgent) (deliveries : List Delivery)
+        (told : LinkTold)
+        → command_for (vec_len receivers.old.held) (map string_bytes words.now) ≡ Some (Command.Relay asked routes)
+        → (L.seen link.old).told ≡ Some told
+        → IsCollected asked.limits history deliveries (datagrams_in 65535 (take asked.turns told.items))
+        → result ≡ Status.Done
+        → RunServed (λ x. (⟦<dyn Receiver as Receiver>⟧ x.vtable).seen x.value) (first_in_time asked.limits history deliveries)
+        routes receivers.old.held.items receivers.new.held.items receivers.new.progress }
+
     // Where no count of faults rose, the input alone decides, but for want of memory.
     ensures complete { (c : Command) (input : List ℕ) (ending : Ending)
-        → command_of (map string_bytes words.now) ≡ Some c
+        → command_for (vec_len receivers.old.held) (map string_bytes words.now) ≡ Some c
         → AreBytes input → (S.seen source.old).told ≡ Some input → EndsBy c input ending
         → ¬ Rose (S.seen source.old).faults (S.seen source.new).faults
         → ¬ Rose (K.seen sink.old).faults (K.seen sink.new).faults
@@ -139,13 +203,20 @@ pub fn run<S: Source, K: Sink, L: Link>(
         → (result ≡ ending) ⊎ (result ≡ Status.Memory) }
 
     // What comes over a link and what doesn't come leave a collection its work, whatever the source is.
-    ensures all_turns { (asked : Collection) → command_of (map string_bytes words.now) ≡ Some (Command.Collect asked)
+    ensures all_turns { (asked : Collection) → command_for (vec_len receivers.old.held) (map string_bytes words.now) ≡ Some (Command.Collect asked)
+        → ¬ Rose (K.seen sink.old).faults (K.seen sink.new).faults
+        → ¬ Rose (L.seen link.old).faults (L.seen link.new).faults
+        → (result ≡ Status.Done) ⊎ (result ≡ Status.Memory) }
+
+    // And so it is with `relay`, whatever becomes of the receivers.
+    ensures relay_turns { (asked : Collection) (routes : List Route)
+        → command_for (vec_len receivers.old.held) (map string_bytes words.now) ≡ Some (Command.Relay asked routes)
         → ¬ Rose (K.seen sink.old).faults (K.seen sink.new).faults
         → ¬ Rose (L.seen link.old).faults (L.seen link.new).faults
         → (result ≡ Status.Done) ⊎ (result ≡ Status.Memory) }
 {
-    match read_words(alloc, words) {
-        Ok(command) => perform(alloc, command, seeds, source, sink, link, taps),
+    match read_words(alloc, words, receivers.len()) {
+        Ok(command) => perform(alloc, command, seeds, source, sink, link, taps, receivers),
         Err(WordsRefusal::Usage) => Status::Usage,
         Err(WordsRefusal::Memory) => Status::Memory,
     }
@@ -160,8 +231,10 @@ fn perform<S: Source, K: Sink, L: Link>(
     sink: &mut K,
     link: &mut L,
     taps: &mut Taps,
+    receivers: &mut Receivers,
 ) -> Status
     requires lawful { HasLawfulLimits command }
+    requires enough { receivers_needed command ≤ vec_len receivers.old.held }
     requires few { taps.old.ended + vec_len taps.old.held < 2 ^ 64 }
     ensures runs { Performs command.entry (surroundings (S.seen source.old) (K.seen sink.old) (L.seen link.old)
         (shown_taps (λ x. (⟦<dyn Tap as Tap>⟧ x.vtable).text x.value) taps.old.held.items taps.old.ended))
@@ -175,6 +248,18 @@ fn perform<S: Source, K: Sink, L: Link>(
         (shown_taps (λ x. (⟦<dyn Tap as Tap>⟧ x.vtable).text x.value) taps.new.held.items taps.new.ended)) result
         taps.old.held.items taps.new.held.items }
     ensures ended { taps.new.ended + vec_len taps.new.held ≡ taps.old.ended + vec_len taps.old.held }
+    ensures relay_lines { (asked : Collection) (routes : List Route) → command.entry ≡ Command.Relay asked routes
+        → RelaysOver asked routes receivers.new.progress (surroundings (S.seen source.old) (K.seen sink.old) (L.seen link.old)
+        (shown_taps (λ x. (⟦<dyn Tap as Tap>⟧ x.vtable).text x.value) taps.old.held.items taps.old.ended))
+        (surroundings (S.seen source.new) (K.seen sink.new) (L.seen link.new)
+        (shown_taps (λ x. (⟦<dyn Tap as Tap>⟧ x.vtable).text x.value) taps.new.held.items taps.new.ended)) result }
+    ensures relayed { (asked : Collection) (routes : List Route) → command.entry ≡ Command.Relay asked routes
+        → Relayed (λ x. (⟦<dyn Receiver as Receiver>⟧ x.vtable).seen x.value) asked routes
+        (L.seen link.old) (L.seen link.new) result receivers.old.held.items receivers.old.progress
+        receivers.new.held.items receivers.new.progress }
+    ensures unrelayed { relays command.entry ≡ false → receivers.new ≡ receivers.old }
+    ensures turns { (asked : Collection) (routes : List Route) → command.entry ≡ Command.Relay asked routes
+        → asked.turns < 2 ^ 32 }
 {
     match command {
         Asked::Replay { limits, interfaces } => {
@@ -186,5 +271,9 @@ fn perform<S: Source, K: Sink, L: Link>(
         Asked::Pcap { output } => pcap(alloc, output, source, sink),
         Asked::Collect { asked } => collect(alloc, &asked, seeds, sink, link, taps),
         Asked::Send { to } => send(alloc, to.text(), source, sink, link),
+        Asked::Relay { asked, routes } => relay(
+            alloc, &asked, &routes, seeds, sink, link, taps, receivers,
+        ),
+        Asked::Agent => agent(alloc, source, sink),
     }
 }

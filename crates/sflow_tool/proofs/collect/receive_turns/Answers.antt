@@ -15,7 +15,7 @@ pub loop-count-preserved : goal.loop-count-preserved
 loop-count-preserved g c =
     let before = c.loop-count.invariant in
     record {
-      far = one_turn _ _ _ _ _ _ _ _ _ _ _ _ _ _ _ (omega (arith, before.within)) before.far c.in-Ok.ensures.turn
+      far = one_turn _ _ _ _ _ _ _ _ _ _ _ _ _ _ _ _ (omega (arith, before.within)) before.far c.in-Ok.ensures.turn
           c.in-Ok.ensures.moves;
       few = c.in-Ok.ensures.ended ∙ before.few;
       within = omega arith;

@@ -1,5 +1,11 @@
-use Rattle.command_words.specs.declared.command.Command.TheVariants.{Replay, Show, Check, Canon, Pcap, Collect, Send}
-use Rattle.sflow_tool.proofs.Performed.{between, collecting, fed_as, fed_come, fed_read, of_this, sends_as, unfed_canon, unfed_check, unfed_pcap, unfed_send, unfed_show}
+use Rattle.std.proofs.Common.{◌≤◌, ◌∙◌, sym, ap, subst, true≢false}
+use Rattle.std.specs.Prelude.{vec_len}
+use Rattle.command_words.specs.Commands.{receivers_needed}
+use Rattle.command_words.specs.declared.command.Command.{Command}
+use Rattle.sflow_tool.specs.Relays.{relays}
+use Rattle.command_words.specs.declared.command.Command.TheVariants.{Replay, Show, Check, Canon, Pcap, Collect, Send, Relay, Agent}
+use Rattle.sflow_tool.proofs.Performed.{between, collecting, fed_as, fed_come, fed_read, fed_relay, of_this, sends_as, unfed_canon, unfed_check, unfed_pcap, unfed_send, unfed_show, unfed_agent}
+use Rattle.sflow_tool.proofs.Relaying.{lines_as, not_relay, relayed_as, turns_as}
 use Rattle.sflow_tool.proofs.top.perform.Goals as goal
 
 pub returns-in-Replay-clause-runs : goal.returns-in-Replay-clause-runs
@@ -53,3 +59,108 @@ returns-in-Send-clause-runs g c = of_this (Send c.in-Send.to) c.args.command _ _
 pub returns-in-Send-clause-fed : goal.returns-in-Send-clause-fed
 returns-in-Send-clause-fed g c =
     fed_as _ _ _ _ _ _ _ (Send c.in-Send.to) c.args.command c.in-Send.is (unfed_send _ _ _ _ _ _ _)
+
+pub returns-in-Replay-clause-relay_lines : goal.returns-in-Replay-clause-relay_lines
+returns-in-Replay-clause-relay_lines g c = λ asked routes is. absurd (not_relay c.args.command asked routes is (ap relays c.in-Replay.is))
+
+pub returns-in-Replay-clause-relayed : goal.returns-in-Replay-clause-relayed
+returns-in-Replay-clause-relayed g c = λ asked routes is. absurd (not_relay c.args.command asked routes is (ap relays c.in-Replay.is))
+
+pub returns-in-Show-clause-relay_lines : goal.returns-in-Show-clause-relay_lines
+returns-in-Show-clause-relay_lines g c = λ asked routes is. absurd (not_relay c.args.command asked routes is (ap relays c.in-Show.is))
+
+pub returns-in-Show-clause-relayed : goal.returns-in-Show-clause-relayed
+returns-in-Show-clause-relayed g c = λ asked routes is. absurd (not_relay c.args.command asked routes is (ap relays c.in-Show.is))
+
+pub returns-in-Check-clause-relay_lines : goal.returns-in-Check-clause-relay_lines
+returns-in-Check-clause-relay_lines g c = λ asked routes is. absurd (not_relay c.args.command asked routes is (ap relays c.in-Check.is))
+
+pub returns-in-Check-clause-relayed : goal.returns-in-Check-clause-relayed
+returns-in-Check-clause-relayed g c = λ asked routes is. absurd (not_relay c.args.command asked routes is (ap relays c.in-Check.is))
+
+pub returns-in-Canon-clause-relay_lines : goal.returns-in-Canon-clause-relay_lines
+returns-in-Canon-clause-relay_lines g c = λ asked routes is. absurd (not_relay c.args.command asked routes is (ap relays c.in-Canon.is))
+
+pub returns-in-Canon-clause-relayed : goal.returns-in-Canon-clause-relayed
+returns-in-Canon-clause-relayed g c = λ asked routes is. absurd (not_relay c.args.command asked routes is (ap relays c.in-Canon.is))
+
+pub returns-in-Pcap-clause-relay_lines : goal.returns-in-Pcap-clause-relay_lines
+returns-in-Pcap-clause-relay_lines g c = λ asked routes is. absurd (not_relay c.args.command asked routes is (ap relays c.in-Pcap.is))
+
+pub returns-in-Pcap-clause-relayed : goal.returns-in-Pcap-clause-relayed
+returns-in-Pcap-clause-relayed g c = λ asked routes is. absurd (not_relay c.args.command asked routes is (ap relays c.in-Pcap.is))
+
+pub returns-in-Collect-clause-relay_lines : goal.returns-in-Collect-clause-relay_lines
+returns-in-Collect-clause-relay_lines g c = λ asked routes is. absurd (not_relay c.args.command asked routes is (ap relays c.in-Collect.is))
+
+pub returns-in-Collect-clause-relayed : goal.returns-in-Collect-clause-relayed
+returns-in-Collect-clause-relayed g c = λ asked routes is. absurd (not_relay c.args.command asked routes is (ap relays c.in-Collect.is))
+
+pub returns-in-Send-clause-relay_lines : goal.returns-in-Send-clause-relay_lines
+returns-in-Send-clause-relay_lines g c = λ asked routes is. absurd (not_relay c.args.command asked routes is (ap relays c.in-Send.is))
+
+pub returns-in-Send-clause-relayed : goal.returns-in-Send-clause-relayed
+returns-in-Send-clause-relayed g c = λ asked routes is. absurd (not_relay c.args.command asked routes is (ap relays c.in-Send.is))
+
+pub relay-requires-clause-enough : goal.relay-requires-clause-enough
+relay-requires-clause-enough g c =
+    subst (λ (k : Command). receivers_needed k ≤ vec_len c.args.receivers.now.held) c.in-Relay.is c.requires.enough
+
+pub returns-in-Relay-clause-runs : goal.returns-in-Relay-clause-runs
+returns-in-Relay-clause-runs g c =
+    of_this (Relay c.in-Relay.asked c.in-Relay.routes) c.args.command _ _ _ c.in-Relay.is (_, c.relay.ensures.runs _)
+
+pub returns-in-Relay-clause-fed : goal.returns-in-Relay-clause-fed
+returns-in-Relay-clause-fed g c =
+    fed_as _ _ _ _ _ _ _ (Relay c.in-Relay.asked c.in-Relay.routes) c.args.command c.in-Relay.is
+    (fed_relay _ _ _ _ _ _ _ c.in-Relay.asked c.in-Relay.routes c.relay.ensures.fed)
+
+pub returns-in-Relay-clause-relay_lines : goal.returns-in-Relay-clause-relay_lines
+returns-in-Relay-clause-relay_lines g c = λ asked routes is.
+    lines_as c.args.command c.in-Relay.asked asked c.in-Relay.routes routes c.in-Relay.is is _ _ _ _ (c.relay.ensures.runs _)
+
+pub returns-in-Relay-clause-relayed : goal.returns-in-Relay-clause-relayed
+returns-in-Relay-clause-relayed g c = λ asked routes is.
+    relayed_as c.args.command c.in-Relay.asked asked c.in-Relay.routes routes c.in-Relay.is is _ _ _ _ _ _ _ _ c.relay.ensures.relayed
+
+pub returns-in-Relay-clause-unrelayed : goal.returns-in-Relay-clause-unrelayed
+returns-in-Relay-clause-unrelayed g c = λ unlike. absurd (true≢false (sym (ap relays c.in-Relay.is) ∙ unlike))
+pub returns-in-Agent-clause-runs : goal.returns-in-Agent-clause-runs
+returns-in-Agent-clause-runs g c = of_this Agent c.args.command _ _ _ c.in-Agent.is (between _ _ _ _ _ _ _ _ _ c.agent.ensures)
+
+pub returns-in-Agent-clause-fed : goal.returns-in-Agent-clause-fed
+returns-in-Agent-clause-fed g c = fed_as _ _ _ _ _ _ _ Agent c.args.command c.in-Agent.is (unfed_agent _ _ _ _ _ _)
+
+pub returns-in-Agent-clause-relay_lines : goal.returns-in-Agent-clause-relay_lines
+returns-in-Agent-clause-relay_lines g c = λ asked routes is. absurd (not_relay c.args.command asked routes is (ap relays c.in-Agent.is))
+
+pub returns-in-Agent-clause-relayed : goal.returns-in-Agent-clause-relayed
+returns-in-Agent-clause-relayed g c = λ asked routes is. absurd (not_relay c.args.command asked routes is (ap relays c.in-Agent.is))
+
+pub returns-in-Replay-clause-turns : goal.returns-in-Replay-clause-turns
+returns-in-Replay-clause-turns g c = λ asked routes is. absurd (not_relay c.args.command asked routes is (ap relays c.in-Replay.is))
+
+pub returns-in-Show-clause-turns : goal.returns-in-Show-clause-turns
+returns-in-Show-clause-turns g c = λ asked routes is. absurd (not_relay c.args.command asked routes is (ap relays c.in-Show.is))
+
+pub returns-in-Check-clause-turns : goal.returns-in-Check-clause-turns
+returns-in-Check-clause-turns g c = λ asked routes is. absurd (not_relay c.args.command asked routes is (ap relays c.in-Check.is))
+
+pub returns-in-Canon-clause-turns : goal.returns-in-Canon-clause-turns
+returns-in-Canon-clause-turns g c = λ asked routes is. absurd (not_relay c.args.command asked routes is (ap relays c.in-Canon.is))
+
+pub returns-in-Pcap-clause-turns : goal.returns-in-Pcap-clause-turns
+returns-in-Pcap-clause-turns g c = λ asked routes is. absurd (not_relay c.args.command asked routes is (ap relays c.in-Pcap.is))
+
+pub returns-in-Collect-clause-turns : goal.returns-in-Collect-clause-turns
+returns-in-Collect-clause-turns g c = λ asked routes is. absurd (not_relay c.args.command asked routes is (ap relays c.in-Collect.is))
+
+pub returns-in-Send-clause-turns : goal.returns-in-Send-clause-turns
+returns-in-Send-clause-turns g c = λ asked routes is. absurd (not_relay c.args.command asked routes is (ap relays c.in-Send.is))
+
+pub returns-in-Relay-clause-turns : goal.returns-in-Relay-clause-turns
+returns-in-Relay-clause-turns g c = λ asked routes is.
+    turns_as c.args.command c.in-Relay.asked asked c.in-Relay.routes routes c.in-Relay.is is c.relay.ensures.turns
+
+pub returns-in-Agent-clause-turns : goal.returns-in-Agent-clause-turns
+returns-in-Agent-clause-turns g c = λ asked routes is. absurd (not_relay c.args.command asked routes is (ap relays c.in-Agent.is))

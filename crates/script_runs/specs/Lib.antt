@@ -1,2 +1,0 @@
-pub mod ScriptBoots
-pub mod ScriptRuns

@@ -1,0 +1,10 @@
+mod Answers
+mod Lists
+mod Sources
+mod Bounds
+mod Packets
+mod Resets
+mod Polls
+mod Sends
+mod Words
+mod Finds

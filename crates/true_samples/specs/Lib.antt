@@ -1,0 +1,9 @@
+pub mod Pairs
+pub mod States
+pub mod Counts
+pub mod Samples
+pub mod Standing
+pub mod Sends
+pub mod Moves
+pub mod Opening
+pub mod Words
