@@ -125,6 +125,7 @@ returns-in-Relay-clause-relayed g c = λ asked routes is.
 
 pub returns-in-Relay-clause-unrelayed : goal.returns-in-Relay-clause-unrelayed
 returns-in-Relay-clause-unrelayed g c = λ unlike. absurd (true≢false (sym (ap relays c.in-Relay.is) ∙ unlike))
+
 pub returns-in-Agent-clause-runs : goal.returns-in-Agent-clause-runs
 returns-in-Agent-clause-runs g c = of_this Agent c.args.command _ _ _ c.in-Agent.is (between _ _ _ _ _ _ _ _ _ c.agent.ensures)
 
