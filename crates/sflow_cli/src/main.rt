@@ -121,12 +121,12 @@ fn new_consumers(alloc: Global) -> Result<Consumers, AllocError> {
 // As many receivers as there may be routes.
 const RECEIVERS: usize = 8;
 
-fn new_receivers(rt: HostRuntime) -> Result<Receivers, AllocError> {
-    let mut boxes: Vec<Box<dyn Receiver>> = Vec::new(rt.alloc());
+fn new_receivers(rt: HostRuntime) -> Result<Vec<Box<UdpReceiver<HostRuntime>>>, AllocError> {
+    let mut receivers = Vec::new(rt.alloc());
     for _ in 0..RECEIVERS {
-        boxes.push(Box::new(rt.alloc(), UdpReceiver::new(rt))?)?;
+        receivers.push(Box::new(rt.alloc(), UdpReceiver::new(rt))?)?;
     }
-    Ok(Receivers::new(boxes))
+    Ok(receivers)
 }
 
 fn main(rt: HostRuntime) -> ExitCode {
@@ -153,9 +153,16 @@ fn main(rt: HostRuntime) -> ExitCode {
         return end_run(&rt, &Status::Memory);
     };
     let mut taps = Taps::new(boxes);
-    let Ok(mut receivers) = new_receivers(rt) else {
+    let Ok(receivers) = new_receivers(rt) else {
         return end_run(&rt, &Status::Memory);
     };
+    let mut boxes: Vec<Box<dyn Receiver>> = Vec::new(rt.alloc());
+    for receiver in receivers {
+        if boxes.push(receiver).is_err() {
+            return end_run(&rt, &Status::Memory);
+        }
+    }
+    let mut receivers = Receivers::new(boxes);
     let mut source = InputSource::new(rt);
     let mut sink = OutputSink::new(rt);
     let mut link = UdpLink::new(rt, SystemClock::new(rt));

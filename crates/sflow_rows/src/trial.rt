@@ -53,7 +53,11 @@ fn difference_in_pieces(
         }
     }
     let mut taps = Taps::new(boxes);
-    let mut receivers = receivers_of(alloc, row)?;
+    let mut boxes: Vec<Box<dyn Receiver>> = Vec::new(alloc);
+    for receiver in receivers_of(alloc, row)? {
+        boxes.push(receiver)?;
+    }
+    let mut receivers = Receivers::new(boxes);
     let status = run(
         alloc,
         &row.words,
@@ -117,13 +121,13 @@ fn items_of(alloc: Global, row: &Row) -> Result<Vec<LinkItem>, AllocError> {
 }
 
 // The receivers that are handed in.
-fn receivers_of(alloc: Global, row: &Row) -> Result<Receivers, AllocError> {
-    let mut boxes: Vec<Box<dyn Receiver>> = Vec::new(alloc);
+fn receivers_of(alloc: Global, row: &Row) -> Result<Vec<Box<ListReceiver>>, AllocError> {
+    let mut receivers = Vec::new(alloc);
     for receiver in &row.receivers {
         let fails = Vec::from_slice(alloc, &receiver.fails)?;
-        boxes.push(Box::new(alloc, ListReceiver::new(alloc, fails))?)?;
+        receivers.push(Box::new(alloc, ListReceiver::new(alloc, fails))?)?;
     }
-    Ok(Receivers::new(boxes))
+    Ok(receivers)
 }
 
 // The lines of the consumers that are held.
