@@ -6,12 +6,12 @@ use Rattle.books_spec.specs.declared.limits.Limits.{Limits}
 use Rattle.command_words.specs.declared.arguments.CommandName.{CommandName}
 use Rattle.command_words.specs.declared.arguments.CommandName.TheVariants as name
 use Rattle.command_words.specs.declared.collection.Collection.{Collection}
-use Rattle.command_words.specs.declared.command.Command.TheVariants.{Replay, Collect, Relay}
+use Rattle.command_words.specs.declared.command.Command.TheVariants.{Replay, Collect, Relay, Trial}
 use Rattle.command_words.specs.Rules.{Text, Rule}
-use Rattle.command_words.specs.Pieces.{Piece, text_of}
+use Rattle.command_words.specs.Pieces.{Piece}
 use Rattle.command_words.specs.Reading.{counted, is_counted, lawful_pieces, pieces_from}
-use Rattle.command_words.specs.Limits.{LimitTexts, limits_asked, texts_by}
-use Rattle.command_words.specs.Commands.{collection_of, collection_with, command_named, command_with, interfaces_of, limits_of, relay_of, routes_of, rules_of, turns_of}
+use Rattle.command_words.specs.Limits.{LimitTexts}
+use Rattle.command_words.specs.Commands.{collection_of, collection_with, command_named, command_with, interfaces_of, limits_of, relay_of, routes_of, rules_of, trial_of, turns_of}
 use Rattle.relay_out.specs.Routes.{Route}
 
 pub same_texts : {streams sources datagram_width sample_width boot_slack streams-2 sources-2 datagram_width-2 sample_width-2 boot_slack-2 : Option Text}
@@ -35,14 +35,19 @@ lawful_made rules words pieces is = go (pieces_from rules None words) refl is
     go None from e = cc
     go (Some qs) from e = from ∙ kept qs (list_all (is_counted qs) rules) e
 
-with_limits : (o : Option Limits) (interfaces : Bool)
-    → is_some o ≡ is_some (option_map (λ limits. Replay limits interfaces) o)
-with_limits None interfaces = refl
-with_limits (Some limits) interfaces = refl
+is_mapped : {X Y : Type 0} (f : X → Y) (o : Option X) → is_some o ≡ is_some (option_map f o)
+is_mapped f None = refl
+is_mapped f (Some x) = refl
 
-with_asked : (o : Option Collection) → is_some o ≡ is_some (option_map (λ asked. Collect asked) o)
-with_asked None = refl
-with_asked (Some asked) = refl
+-- limits make what `replay` and `trial` are asked for, and what is collected makes what `collect` is
+pub replay_test : (pieces : List Piece) → is_some (limits_of pieces) ≡ is_some (command_with name.Replay pieces)
+replay_test pieces = is_mapped (λ limits. Replay limits (interfaces_of pieces)) (limits_of pieces)
+
+pub trial_test : (pieces : List Piece) → is_some (limits_of pieces) ≡ is_some (trial_of pieces)
+trial_test pieces = is_mapped (λ limits. Trial limits (interfaces_of pieces)) (limits_of pieces)
+
+pub collect_test : (pieces : List Piece) → is_some (collection_of pieces) ≡ is_some (command_with name.Collect pieces)
+collect_test pieces = is_mapped (λ asked. Collect asked) (collection_of pieces)
 
 -- the limits and the number of receives make what is collected
 pub both_asked : (l : Option Limits) (t : Option ℕ) (pieces : List Piece) → l ≡ limits_of pieces → t ≡ turns_of pieces
@@ -56,21 +61,6 @@ both_asked l t pieces limits turns =
     go (Some m) None = refl
     go (Some m) (Some n) = refl
 
-pub collect_asked : (command : CommandName) (words : List Text) (rules : List Rule) (b : Bool)
-    → command ≡ name.Collect → rules ≡ rules_of command → true ≡ is_some (lawful_pieces rules words)
-    → ((pieces : List Piece) → pieces_from rules None words ≡ Some pieces → b ≡ is_some (collection_of pieces))
-    → b ≡ is_some (command_named words command)
-collect_asked command words rules b is same lawful test =
-    go (lawful_pieces rules words) refl lawful ∙ ap (λ rs. is_some (option_and_then (command_with name.Collect) (lawful_pieces rs words))) (same ∙ ap rules_of is)
-    ∙ ap (λ n. is_some (command_named words n)) (sym is)
-  where
-    go : (o : Option (List Piece)) → lawful_pieces rules words ≡ o → true ≡ is_some o
-        → b ≡ is_some (option_and_then (command_with name.Collect) (lawful_pieces rules words))
-    go None from some = cc
-    go (Some pieces) from some =
-        test pieces (lawful_made rules words pieces from) ∙ with_asked (collection_of pieces)
-        ∙ ap (λ o. is_some (option_and_then (command_with name.Collect) o)) (sym from)
-
 -- these and the routes make what `relay` is asked for
 pub relay_parts : (b : Bool) (r : Option (List Route)) (pieces : List Piece) → b ≡ is_some (collection_of pieces)
     → r ≡ routes_of pieces → (b && is_some r) ≡ is_some (relay_of pieces)
@@ -83,34 +73,19 @@ relay_parts b r pieces collects routes =
     go (Some asked) None = refl
     go (Some asked) (Some routes) = refl
 
-pub relay_asked : (command : CommandName) (words : List Text) (rules : List Rule) (b : Bool)
-    → command ≡ name.Relay → rules ≡ rules_of command → true ≡ is_some (lawful_pieces rules words)
-    → ((pieces : List Piece) → pieces_from rules None words ≡ Some pieces → b ≡ is_some (relay_of pieces))
+-- lawful words ask for the command of a name where their pieces do
+pub pieces_ask : (kind command : CommandName) (words : List Text) (rules : List Rule) (b : Bool)
+    → command ≡ kind → rules ≡ rules_of command → true ≡ is_some (lawful_pieces rules words)
+    → ((pieces : List Piece) → pieces_from rules None words ≡ Some pieces → b ≡ is_some (command_with kind pieces))
     → b ≡ is_some (command_named words command)
-relay_asked command words rules b is same lawful test =
-    go (lawful_pieces rules words) refl lawful ∙ ap (λ rs. is_some (option_and_then (command_with name.Relay) (lawful_pieces rs words))) (same ∙ ap rules_of is)
+pieces_ask kind command words rules b is same lawful test =
+    go (lawful_pieces rules words) refl lawful
+    ∙ ap (λ rs. is_some (option_and_then (command_with kind) (lawful_pieces rs words))) (same ∙ ap rules_of is)
     ∙ ap (λ n. is_some (command_named words n)) (sym is)
   where
     go : (o : Option (List Piece)) → lawful_pieces rules words ≡ o → true ≡ is_some o
-        → b ≡ is_some (option_and_then (command_with name.Relay) (lawful_pieces rules words))
+        → b ≡ is_some (option_and_then (command_with kind) (lawful_pieces rules words))
     go None from some = cc
     go (Some pieces) from some =
         test pieces (lawful_made rules words pieces from)
-        ∙ ap (λ o. is_some (option_and_then (command_with name.Relay) o)) (sym from)
-
-pub replay_asked : (command : CommandName) (words : List Text) (rules : List Rule) (texts : LimitTexts) (limits : Option Limits) (b : Bool)
-    → command ≡ name.Replay → rules ≡ rules_of command → true ≡ is_some (lawful_pieces rules words)
-    → ((pieces : List Piece) → pieces_from rules None words ≡ Some pieces → texts ≡ texts_by (λ name. text_of name pieces))
-    → limits ≡ limits_asked texts → b ≡ is_some limits
-    → b ≡ is_some (command_named words command)
-replay_asked command words rules texts limits b is same lawful texts_are limits_are test =
-    go (lawful_pieces rules words) refl lawful ∙ ap (λ rs. is_some (option_and_then (command_with name.Replay) (lawful_pieces rs words))) (same ∙ ap rules_of is)
-    ∙ ap (λ n. is_some (command_named words n)) (sym is)
-  where
-    go : (o : Option (List Piece)) → lawful_pieces rules words ≡ o → true ≡ is_some o
-        → b ≡ is_some (option_and_then (command_with name.Replay) (lawful_pieces rules words))
-    go None from some = cc
-    go (Some pieces) from some =
-        test ∙ ap is_some (limits_are ∙ ap limits_asked (texts_are pieces (lawful_made rules words pieces from)))
-        ∙ with_limits (limits_of pieces) (interfaces_of pieces)
-        ∙ ap (λ o. is_some (option_and_then (command_with name.Replay) o)) (sym from)
+        ∙ ap (λ o. is_some (option_and_then (command_with kind) o)) (sym from)

@@ -23,6 +23,7 @@ rules_fine name.Collect = refl
 rules_fine name.Send = refl
 rules_fine name.Relay = refl
 rules_fine name.Agent = refl
+rules_fine name.Trial = refl
 
 name_read : (command : CommandName) → name_of (word_of command) ≡ Some command
 name_read name.Replay = refl
@@ -34,6 +35,7 @@ name_read name.Collect = refl
 name_read name.Send = refl
 name_read name.Relay = refl
 name_read name.Agent = refl
+name_read name.Trial = refl
 
 -- what is found by its word has that word
 found_first : (names : List CommandName) (word : Text) (n command : CommandName)

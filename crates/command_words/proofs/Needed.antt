@@ -10,7 +10,7 @@ use Rattle.command_words.specs.declared.arguments.CommandName.{CommandName}
 use Rattle.command_words.specs.declared.arguments.CommandName.TheVariants as name
 use Rattle.command_words.specs.declared.collection.Collection.{Collection}
 use Rattle.command_words.specs.declared.command.Command.{Command}
-use Rattle.command_words.specs.declared.command.Command.TheVariants.{Replay, Collect, Relay}
+use Rattle.command_words.specs.declared.command.Command.TheVariants.{Replay, Collect, Relay, Trial}
 use Rattle.command_words.specs.Rules.{Rule, Text}
 use Rattle.command_words.specs.Pieces.{Piece}
 use Rattle.command_words.specs.Reading.{lawful_pieces, pieces_from}
@@ -26,6 +26,11 @@ needs : (command : CommandName) (pieces : List Piece) (c : Command) → command_
 needs name.Replay pieces c e = go (limits_of pieces) e
   where
     go : (o : Option Limits) → option_map (λ limits. Replay limits (interfaces_of pieces)) o ≡ Some c → 0 ≡ receivers_needed c
+    go None e = cc
+    go (Some limits) e = ap receivers_needed (same_Some _ _ e)
+needs name.Trial pieces c e = go (limits_of pieces) e
+  where
+    go : (o : Option Limits) → option_map (λ limits. Trial limits (interfaces_of pieces)) o ≡ Some c → 0 ≡ receivers_needed c
     go None e = cc
     go (Some limits) e = ap receivers_needed (same_Some _ _ e)
 needs name.Collect pieces c e = go (collection_of pieces) e
@@ -78,6 +83,7 @@ other name.Pcap pieces unlike = refl
 other name.Collect pieces unlike = refl
 other name.Send pieces unlike = refl
 other name.Agent pieces unlike = refl
+other name.Trial pieces unlike = refl
 other name.Relay pieces unlike = absurd (unlike refl)
 
 -- the others need none

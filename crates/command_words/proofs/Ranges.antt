@@ -8,7 +8,7 @@ use Rattle.command_words.specs.declared.arguments.CommandName.{CommandName}
 use Rattle.command_words.specs.declared.arguments.CommandName.TheVariants as name
 use Rattle.command_words.specs.declared.collection.Collection.{Collection}
 use Rattle.command_words.specs.declared.command.Command.{Command}
-use Rattle.command_words.specs.declared.command.Command.TheVariants.{Replay, Collect, Relay}
+use Rattle.command_words.specs.declared.command.Command.TheVariants.{Replay, Collect, Relay, Trial}
 use Rattle.command_words.specs.Rules.{Text}
 use Rattle.command_words.specs.Pieces.{Piece, text_of}
 use Rattle.command_words.specs.Limits.{LimitTexts, limits_asked, number_or, texts_by, unless_refused, with_number}
@@ -46,6 +46,13 @@ with_lawful name.Replay pieces c e = go (limits_of pieces) refl e
   where
     go : (o : Option Limits) → limits_of pieces ≡ o
         → option_map (λ limits. Replay limits (interfaces_of pieces)) o ≡ Some c → HasLawfulLimits c
+    go None is e = cc
+    go (Some limits) is e =
+        subst HasLawfulLimits (same_Some _ _ e) (asked_within (texts_by (λ name. text_of name pieces)) limits is)
+with_lawful name.Trial pieces c e = go (limits_of pieces) refl e
+  where
+    go : (o : Option Limits) → limits_of pieces ≡ o
+        → option_map (λ limits. Trial limits (interfaces_of pieces)) o ≡ Some c → HasLawfulLimits c
     go None is e = cc
     go (Some limits) is e =
         subst HasLawfulLimits (same_Some _ _ e) (asked_within (texts_by (λ name. text_of name pieces)) limits is)

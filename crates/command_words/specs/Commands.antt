@@ -13,7 +13,7 @@ use Rattle.command_words.specs.declared.command.CanonVersion.{CanonVersion}
 use Rattle.command_words.specs.declared.command.CanonVersion.TheVariants as canon
 use Rattle.command_words.specs.declared.collection.Collection.{Collection}
 use Rattle.command_words.specs.declared.command.Command.{Command}
-use Rattle.command_words.specs.declared.command.Command.TheVariants.{Replay, Show, Check, Canon, Pcap, Collect, Send, Relay, Agent}
+use Rattle.command_words.specs.declared.command.Command.TheVariants.{Replay, Show, Check, Canon, Pcap, Collect, Send, Relay, Agent, Trial}
 use Rattle.relay_out.specs.Routes.{Route}
 use Rattle.command_words.specs.Rules.{Text, Rule}
 use Rattle.books_spec.specs.declared.limits.Limits.{Limits}
@@ -80,9 +80,14 @@ relay_under pieces asked = option_map (λ routes. Relay asked routes) (routes_of
 abbrev pub relay_of : List Piece → Option Command
 relay_of pieces = option_and_then (relay_under pieces) (collection_of pieces)
 
+-- what `trial` is asked for
+abbrev pub trial_of : List Piece → Option Command
+trial_of pieces = option_map (λ limits. Trial limits (interfaces_of pieces)) (limits_of pieces)
+
 -- the limits of a command, where it has some, are within their ranges
 abbrev pub HasLawfulLimits : Command → Type 0
 HasLawfulLimits (Replay limits interfaces) = AreWithin limits
+HasLawfulLimits (Trial limits interfaces) = AreWithin limits
 HasLawfulLimits (Collect asked) = AreWithin asked.limits
 HasLawfulLimits (Relay asked routes) = AreWithin asked.limits
 HasLawfulLimits _ = Unit {0}
@@ -94,17 +99,21 @@ pub record CommandRow : Type 0 where
   pub rules : List Rule
   pub gives : List Piece → Option Command
 
+-- the options of the limits, the flag for the lines of interfaces, and these
+abbrev pub with_limits : List Rule → List Rule
+with_limits more =
+    record { name = codes "streams"; form = Optional }
+    ∷ record { name = codes "sources"; form = Optional }
+    ∷ record { name = codes "datagram-width"; form = Optional }
+    ∷ record { name = codes "sample-width"; form = Optional }
+    ∷ record { name = codes "boot-slack"; form = Optional }
+    ∷ record { name = codes "interfaces"; form = Flag }
+    ∷ more
+
 abbrev pub replay_row : CommandRow
 replay_row = record {
   word = codes "replay";
-  rules =
-      record { name = codes "streams"; form = Optional }
-      ∷ record { name = codes "sources"; form = Optional }
-      ∷ record { name = codes "datagram-width"; form = Optional }
-      ∷ record { name = codes "sample-width"; form = Optional }
-      ∷ record { name = codes "boot-slack"; form = Optional }
-      ∷ record { name = codes "interfaces"; form = Flag }
-      ∷ [];
+  rules = with_limits [];
   gives = λ pieces. option_map (λ limits. Replay limits (interfaces_of pieces)) (limits_of pieces);
 }
 
@@ -136,15 +145,10 @@ abbrev pub collect_row : CommandRow
 collect_row = record {
   word = codes "collect";
   rules =
-      record { name = codes "streams"; form = Optional }
-      ∷ record { name = codes "sources"; form = Optional }
-      ∷ record { name = codes "datagram-width"; form = Optional }
-      ∷ record { name = codes "sample-width"; form = Optional }
-      ∷ record { name = codes "boot-slack"; form = Optional }
-      ∷ record { name = codes "interfaces"; form = Flag }
-      ∷ record { name = codes "turns"; form = Required }
+      with_limits (
+      record { name = codes "turns"; form = Required }
       ∷ record { name = codes "listen"; form = Optional }
-      ∷ [];
+      ∷ []);
   gives = λ pieces. option_map (λ asked. Collect asked) (collection_of pieces);
 }
 
@@ -159,21 +163,19 @@ abbrev pub relay_row : CommandRow
 relay_row = record {
   word = codes "relay";
   rules =
-      record { name = codes "streams"; form = Optional }
-      ∷ record { name = codes "sources"; form = Optional }
-      ∷ record { name = codes "datagram-width"; form = Optional }
-      ∷ record { name = codes "sample-width"; form = Optional }
-      ∷ record { name = codes "boot-slack"; form = Optional }
-      ∷ record { name = codes "interfaces"; form = Flag }
-      ∷ record { name = codes "turns"; form = Required }
+      with_limits (
+      record { name = codes "turns"; form = Required }
       ∷ record { name = codes "listen"; form = Optional }
       ∷ record { name = codes "routes"; form = Required }
-      ∷ [];
+      ∷ []);
   gives = relay_of;
 }
 
 abbrev pub agent_row : CommandRow
 agent_row = record { word = codes "agent"; rules = []; gives = λ pieces. Some Agent }
+
+abbrev pub trial_row : CommandRow
+trial_row = record { word = codes "trial"; rules = with_limits []; gives = trial_of }
 
 abbrev pub row_of : CommandName → CommandRow
 row_of name.Replay = replay_row
@@ -185,10 +187,11 @@ row_of name.Collect = collect_row
 row_of name.Send = send_row
 row_of name.Relay = relay_row
 row_of name.Agent = agent_row
+row_of name.Trial = trial_row
 
 abbrev pub commands : List CommandName
 commands = name.Replay ∷ name.Show ∷ name.Check ∷ name.Canon ∷ name.Pcap ∷ name.Collect ∷ name.Send ∷ name.Relay
-    ∷ name.Agent ∷ []
+    ∷ name.Agent ∷ name.Trial ∷ []
 
 -- ---- the same for all commands
 

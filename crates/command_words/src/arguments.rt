@@ -33,11 +33,12 @@ pub enum CommandName {
     Send,
     Relay,
     Agent,
+    Trial,
 }
 
 static NONE: [Argument; 0] = [];
 
-// The options that set the limits of a collector, and the flag for the lines of interfaces.
+// The options that set the limits of a collector, and the flag for the lines of interfaces: those of `replay` and `trial`.
 static REPLAY: [Argument; 6] = [
     Argument {
         name: "streams",
@@ -176,6 +177,7 @@ impl CommandName {
             "send" => Some(CommandName::Send),
             "relay" => Some(CommandName::Relay),
             "agent" => Some(CommandName::Agent),
+            "trial" => Some(CommandName::Trial),
             _ => None,
         }
     }
@@ -193,6 +195,7 @@ impl CommandName {
             CommandName::Send => "send",
             CommandName::Relay => "relay",
             CommandName::Agent => "agent",
+            CommandName::Trial => "trial",
         }
     }
 
@@ -202,6 +205,7 @@ impl CommandName {
     {
         match self {
             CommandName::Replay => &REPLAY,
+            CommandName::Trial => &REPLAY,
             CommandName::Check => &CHECK,
             CommandName::Pcap => &PCAP,
             CommandName::Canon => &CANON,

@@ -1,18 +1,16 @@
-ghost use Rattle.std.specs.Prelude.{◌≡◌, ◌≤◌, ◌↔◌, Bool, List, codes, if◌then◌else◌, is_some, IfOk, None, Some, Err, map, string_bytes};
+ghost use Rattle.std.specs.Prelude.{◌≡◌, ◌≤◌, ◌↔◌, Bool, List, codes, if◌then◌else◌, IfOk, None, Some, Err, map, string_bytes};
 ghost use Rattle.clap.specs.Words.{found_of, kind_of, one_text};
-ghost use Rattle.command_words.specs.Commands.{HasLawfulLimits, collection_of, command_for, command_named, command_with, listen_of, named_for, receivers_needed, relay_of, route_count_of, rules_of, to_of};
+ghost use Rattle.command_words.specs.Commands.{HasLawfulLimits, collection_of, command_for, command_with, listen_of, named_for, receivers_needed, relay_of, rules_of, to_of, trial_of};
 ghost use Rattle.command_words.specs.declared.arguments.CommandName.TheVariants as name_is;
 ghost use Rattle.command_words.specs.Matching.{Holds};
 ghost use Rattle.command_words.specs.Pieces.{Piece};
-ghost use Rattle.command_words.specs.Arguments.{rules_in};
-ghost use Rattle.command_words.specs.Reading.{pieces_from};
 
-use crate::arguments::{Argument, CommandName};
+use crate::arguments::CommandName;
+use crate::asking::asks_for;
 use crate::collection::{Collection, routes_in, turns_in};
 use crate::limits::LimitTexts;
 use crate::matching::matches_in;
 use crate::place::Place;
-use crate::reading::{are_lawful, text};
 use capture_spec::PcapOutput;
 use clap::error::ErrorKind;
 use clap::{ArgMatches, Error};
@@ -59,6 +57,12 @@ pub enum Command<'a> {
     },
     /// Reads a script and writes a capture of the datagrams that its sub-agents send.
     Agent,
+    /// Reads a script, delivers the datagrams that its sub-agents send to a collector under these limits, and reports what
+    /// it collected and what was true, with a line for each interface where that is asked for.
+    Trial {
+        limits: Limits,
+        interfaces: bool,
+    },
 }
 
 // The places where no text names one: sFlow's UDP port is 6343.
@@ -194,71 +198,18 @@ fn relay_in<'a>(matches: &ArgMatches<'a>) -> Option<Command<'a>>
     Some(Command::Relay { asked, routes })
 }
 
-// Whether the limits and the number of receives are within their ranges.
-fn can_collect(arguments: &[Argument], words: &[String]) -> bool
-    ensures { (pieces : List Piece)
-        → pieces_from (rules_in arguments.now) None (map string_bytes words.now) ≡ Some pieces
-        → result ≡ is_some (collection_of pieces) }
+// What `trial` is asked for.
+fn trial_in<'a>(matches: &ArgMatches<'a>) -> Option<Command<'a>>
+    ensures { (pieces : List Piece) → Holds (found_of matches.now) (rules_of name_is.Trial) pieces
+        → result ≡ trial_of pieces }
 {
-    LimitTexts::in_words(arguments, words).limits().is_some()
-        && turns_in(text(arguments, words, "turns")).is_some()
-}
-
-// Whether that is so, and the routes are routes.
-fn can_relay(arguments: &[Argument], words: &[String]) -> bool
-    ensures { (pieces : List Piece)
-        → pieces_from (rules_in arguments.now) None (map string_bytes words.now) ≡ Some pieces
-        → result ≡ is_some (relay_of pieces) }
-{
-    can_collect(arguments, words) && routes_in(text(arguments, words, "routes")).is_some()
-}
-
-// How many routes the words say; none where they say no routes.
-fn route_count(arguments: &[Argument], words: &[String]) -> usize
-    ensures { (pieces : List Piece)
-        → pieces_from (rules_in arguments.now) None (map string_bytes words.now) ≡ Some pieces
-        → result ≡ route_count_of pieces }
-{
-    match routes_in(text(arguments, words, "routes")) {
-        Some(routes) => routes.len(),
-        None => 0,
+    match LimitTexts::in_matches(matches).limits() {
+        Some(limits) => Some(Command::Trial {
+            limits,
+            interfaces: interfaces_in(matches),
+        }),
+        None => None,
     }
-}
-
-// How many receivers the command of this name needs, where the words ask for it.
-fn receivers_of(name: CommandName, words: &[String]) -> usize
-    ensures { (c : Command) → command_named (map string_bytes words.now) name ≡ Some c → result ≡ receivers_needed c }
-{
-    match name {
-        CommandName::Relay => route_count(name.arguments(), words),
-        _ => 0,
-    }
-}
-
-// Whether the words ask for the command of this name. This takes no memory.
-fn asks(name: CommandName, words: &[String]) -> bool
-    ensures { result ≡ is_some (command_named (map string_bytes words.now) name) }
-{
-    let arguments = name.arguments();
-    are_lawful(arguments, words)
-        && match name {
-            CommandName::Replay => LimitTexts::in_words(arguments, words).limits().is_some(),
-            CommandName::Collect => can_collect(arguments, words),
-            CommandName::Relay => can_relay(arguments, words),
-            CommandName::Show
-            | CommandName::Check
-            | CommandName::Canon
-            | CommandName::Pcap
-            | CommandName::Send
-            | CommandName::Agent => true,
-        }
-}
-
-// Whether they do, and there are as many receivers as it needs.
-fn asks_for(name: CommandName, words: &[String], receivers: usize) -> bool
-    ensures { result ≡ is_some (named_for receivers (map string_bytes words.now) name) }
-{
-    asks(name, words) && receivers_of(name, words) <= receivers
 }
 
 // The command of this name, from what `clap` has read.
@@ -293,6 +244,7 @@ fn command_in<'a>(name: CommandName, matches: &ArgMatches<'a>) -> Option<Command
         CommandName::Send => Some(Command::Send { to: to_in(matches) }),
         CommandName::Relay => relay_in(matches),
         CommandName::Agent => Some(Command::Agent),
+        CommandName::Trial => trial_in(matches),
     }
 }
 

@@ -67,6 +67,10 @@ fn told(alloc: Global, read: &Result<Command<'_>, WordsRefusal>) -> Result<Strin
             )
         }
         Ok(Command::Agent) => format!(in alloc; "agent"),
+        Ok(Command::Trial { limits, interfaces }) => {
+            let numbers = numbers_of(alloc, limits)?;
+            format!(in alloc; "trial {numbers} {interfaces}")
+        }
     }
 }
 
@@ -84,7 +88,7 @@ const RECEIVERS: usize = 2;
 // With ample memory each list of words has its reading.
 #[test]
 fn words_have_their_readings(rt: HostRuntime) -> Result<(), Fail> {
-    let cases: [(&[&str], &str); 63] = [
+    let cases: [(&[&str], &str); 68] = [
         (&[], "usage"),
         (&[""], "usage"),
         (&["replay"], "replay 256 4096 64 1024 5000 false"),
@@ -148,6 +152,14 @@ fn words_have_their_readings(rt: HostRuntime) -> Result<(), Fail> {
         (&["Check"], "usage"),
         (&["agent"], "agent"),
         (&["agent", "extra"], "usage"),
+        (&["trial"], "trial 256 4096 64 1024 5000 false"),
+        (
+            &["trial", "--interfaces", "--boot-slack=100"],
+            "trial 256 4096 64 1024 100 true",
+        ),
+        (&["trial", "extra"], "usage"),
+        (&["trial", "--interfaces=yes"], "usage"),
+        (&["trial", "--boot-slack=99"], "usage"),
         (&["collect"], "usage"),
         (
             &["collect", "--turns", "5"],

@@ -12,3 +12,6 @@ pub mod InTimeCounts
 pub mod HeaderCounts
 pub mod HeadersReceived
 pub mod MadeAccepted
+mod ScriptWords
+mod ScriptRoom
+mod ScriptAccepted

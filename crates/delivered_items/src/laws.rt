@@ -1,6 +1,6 @@
 //! The laws. Deliveries have the latest first.
 
-ghost use Rattle.std.specs.Prelude.{◌≡◌, ◌≤◌, ◌<◌, ◌^◌, ℕ, List, length, map, Ok};
+ghost use Rattle.std.specs.Prelude.{◌≡◌, ◌≤◌, ◌<◌, ◌^◌, ℕ, List, length, map, reverse, Ok};
 ghost use Rattle.wire_spec.specs.declared.pad.Pad.TheVariants.{Any};
 ghost use Rattle.wire_spec.specs.Shapes.{Tree, Trees};
 ghost use Rattle.wire_spec.specs.Captures.{Entry};
@@ -22,6 +22,12 @@ ghost use Rattle.delivered_items.specs.AccountHeaders.{account_headers, account_
 ghost use Rattle.delivered_items.specs.PacketHeaders.{headered, IsHeaderReader, headered_entry};
 ghost use Rattle.std.specs.List.{AllByRecursion};
 ghost use Rattle.trial_spec.specs.Made.{made_history};
+ghost use Rattle.script_spec.specs.Lines.{Line};
+ghost use Rattle.script_spec.specs.Sent.{all_delivered};
+ghost use Rattle.script_laws.specs.Lawful.{AreLawful};
+ghost use Rattle.script_histories.specs.Histories.{history_of, deliveries_of};
+
+use script_histories::laws::scripts_are_histories;
 
 /// The bytes of each datagram that was delivered are at most 65,535, and are read as the value that was sent.
 pub fn what_was_sent_is_read()
@@ -78,3 +84,24 @@ pub fn headers_are_as_many_as_received()
 pub fn made_runs_are_accepted()
     ensures { (seed packets : ℕ) → packets ≤ 10000000 → AreAccepted (made_history seed packets) }
 {}
+
+/// An agent's calls take what happens in lawful lines of a script.
+pub fn scripts_are_accepted()
+    ensures { (lines : List Line) → AreLawful lines → AreAccepted (history_of lines) }
+{}
+
+/// Of lawful lines of a script, what is read of the entries that arrive are the datagrams that were delivered: their items,
+/// by whoever reads samples by their places in the formats, and with them their headers, by whoever reads these too.
+pub fn scripts_are_read_as_delivered()
+    ensures items { (read : Tree → Sample) (reads : Trees → List Sample) (lines : List Line) → IsReader read reads
+        → AreLawful lines → map (entry_item reads) (reverse (all_delivered lines)) ≡ map item (deliveries_of lines) }
+    ensures headers { (read : Tree → Sample) (reads : Trees → List Sample) (records : Trees → List SampledHeader)
+        (headers : Tree → List SampledHeader) (all_headers : Trees → List (List SampledHeader)) (lines : List Line)
+        → IsReader read reads → IsHeaderReader records headers all_headers → AreLawful lines
+        → map (headered_entry reads all_headers) (reverse (all_delivered lines)) ≡ map headered (deliveries_of lines) }
+{
+    scripts_are_histories();
+    scripts_are_accepted();
+    entries_are_the_deliveries();
+    headers_are_those_of_the_packets();
+}

@@ -7,3 +7,4 @@ pub mod Lines
 pub mod HeaderLines
 pub mod Reports
 pub mod InterfaceLines
+pub mod TrialLines

@@ -113,6 +113,13 @@ impl ScriptSetups {
     }
 
     /// The set-ups, in the order of their lines.
+    pub fn setups(&self) -> &[Setup]
+        ensures { result.now ≡ self.now.setups }
+    {
+        &self.setups
+    }
+
+    /// The set-ups themselves.
     pub fn into_setups(self) -> Vec<Setup>
         ensures { result.items ≡ self.setups }
     {

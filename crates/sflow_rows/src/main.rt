@@ -16,7 +16,7 @@ use std::{fs, io};
 use table::Table;
 
 // What rows share comes first.
-const TABLES: [&str; 19] = [
+const TABLES: [&str; 20] = [
     "parts.txt",
     "words.txt",
     "replay.txt",
@@ -35,6 +35,7 @@ const TABLES: [&str; 19] = [
     "relay.txt",
     "agent.txt",
     "scripts.txt",
+    "trial.txt",
     "wrong.txt",
 ];
 

@@ -27,11 +27,12 @@ use Rattle.script_lines.specs.Shown.{shown}
 use Rattle.command_runs.specs.Walks.{Moved}
 use Rattle.sflow_tool.specs.Agents.{agent_part, are_some, entries_put}
 use Rattle.sflow_tool.specs.AgentWalks.{IsShort, Lacking, LineEnds, LinesEnd, NotWritten, PutsBeginning, PutsText, StopsBehind, TookLine, TookLines, TookScript}
-use Rattle.sflow_tool.specs.ScriptRuns.{StandsFor, TakesLine, entries_of}
+use Rattle.sflow_tool.specs.ScriptRuns.{StandsFor, TakesLine}
+use Rattle.sflow_tool.specs.Steps.{entries_of}
 use Rattle.sflow_tool.specs.declared.agent.AgentStop.{AgentStop}
 use Rattle.sflow_tool.specs.declared.agent.AgentStop.TheVariants as stops
 use Rattle.sflow_tool.specs.declared.script_run.ScriptRun.{ScriptRun}
-use Rattle.sflow_tool.specs.declared.script_run.Sent.{Sent}
+use Rattle.sflow_tool.specs.declared.step.Step.{Step}
 use Rattle.sflow_tool.proofs.AgentTexts.{nothing_part, nothing_some, part_more, some_line}
 use Rattle.sflow_tool.proofs.Short.{sends_short}
 
@@ -43,38 +44,30 @@ pub said_may : (line : Line) → IsSaid line → ((text : Text) (l : Line) → (
 said_may line said law = ((law said.0 line).0 said.1).may
 
 -- what a line has sent is short
-pub sent_short : (run new : ScriptRun) (lines : List Line) (line : Line) (sent : Sent) → StandsFor run lines
-    → TakesLine new lines line (Ok (Some sent)) → AllByRecursion IsShort (entries_of (Some sent))
-sent_short run new lines line sent stands takes =
-    subst (AllByRecursion IsShort) (sym takes.2) (sends_short line lines stands.lawful)
+pub sent_short : (run new : ScriptRun) (lines : List Line) (line : Line) (step : Step) → StandsFor run lines
+    → TakesLine new lines line (Ok step) → AllByRecursion IsShort (entries_of step)
+sent_short run new lines line step stands takes =
+    subst (AllByRecursion IsShort) (sym takes.3) (sends_short line lines stands.lawful)
 
-pub line_took : (new : ScriptRun) (lines : List Line) (line : Line) (sent : Option Sent) (opened now : Bool) (m : Moved)
-    → TakesLine new lines line (Ok sent) → now ≡ (opened || are_some (entries_of sent))
-    → PutsText m (entries_put opened (entries_of sent)) → TookLine new lines line opened now m
-line_took new lines line sent opened now m takes is put = record {
+pub line_took : (new : ScriptRun) (lines : List Line) (line : Line) (step : Step) (opened now : Bool) (m : Moved)
+    → TakesLine new lines line (Ok step) → now ≡ (opened || are_some (entries_of step))
+    → PutsText m (entries_put opened (entries_of step)) → TookLine new lines line opened now m
+line_took new lines line step opened now m takes is put = record {
   follows = takes.0;
   stands = takes.1;
-  opened_is = is ∙ ap (λ es. opened || are_some es) takes.2;
-  put = subst (λ es. PutsText m (entries_put opened es)) takes.2 put;
+  opened_is = is ∙ ap (λ es. opened || are_some es) takes.3;
+  put = subst (λ es. PutsText m (entries_put opened es)) takes.3 put;
 }
 
-or_nothing : (b : Bool) → b ≡ (b || false)
+pub or_nothing : (b : Bool) → b ≡ (b || false)
 or_nothing true = refl
 or_nothing false = refl
 
--- a line that sends nothing
-pub line_quiet : (new : ScriptRun) (lines : List Line) (line : Line) (opened : Bool) (sink : Seen) (page : List ℕ)
-    → TakesLine new lines line (Ok None)
-    → TookLine new lines line opened opened (record { sink = sink; sink' = sink; page = page; page' = page })
-line_quiet new lines line opened sink page takes =
-    line_took new lines line None opened opened (record { sink = sink; sink' = sink; page = page; page' = page }) takes
-    (or_nothing opened) (puts_none sink page)
-
-pub line_unwritten : (new : ScriptRun) (lines : List Line) (line : Line) (sent : Option Sent) (opened : Bool) (m : Moved)
-    → TakesLine new lines line (Ok sent) → PutsBeginning m (entries_put opened (entries_of sent))
+pub line_unwritten : (new : ScriptRun) (lines : List Line) (line : Line) (step : Step) (opened : Bool) (m : Moved)
+    → TakesLine new lines line (Ok step) → PutsBeginning m (entries_put opened (entries_of step))
     → (may_follow lines line ≡ true) × PutsBeginning m (entries_put opened (sent_by lines line))
-line_unwritten new lines line sent opened m takes put =
-    (takes.0, subst (λ es. PutsBeginning m (entries_put opened es)) takes.2 put)
+line_unwritten new lines line step opened m takes put =
+    (takes.0, subst (λ es. PutsBeginning m (entries_put opened es)) takes.3 put)
 
 -- ---- where a walk stands
 
@@ -221,6 +214,31 @@ module _ (source now now' a b : Seen) (p q : List ℕ) (reader reader' : ReaderS
   line_ends number stops.Write c r is_number h = line_failed c r h.0 h.1
   line_ends number stops.Memory c r is_number h = line_lacks c r h.1
 
+-- what a refusal of the reader says of the input behind these lines
+pub stops_so : (lines : List Line) (reader reader' : ReaderState) (now' : Seen) (input : List ℕ) (bytes : List ℕ)
+    (left : Option (List ℕ)) (refusal : ReadRefusal)
+    → SoFar input (record { count = reader.place.count; begun = reader.place.begun; lines = lines }) (texts_in bytes)
+    → Tells reader.place reader'.place bytes (unread reader'.held now') left (Err refusal)
+    → StopsBehind lines input left refusal
+stops_so lines reader reader' now' input bytes left refusals.ReadFault so_far h = record {
+  behind = record { count = reader.place.count; begun = reader.place.begun; lines = lines };
+  more = texts_in bytes;
+  so_far = so_far;
+  says = refl;
+  now = record { count = reader'.place.count; begun = reader'.place.begun; lines = lines };
+  part = h.part;
+  rest = h.rest;
+  inside = h.inside;
+  left_is = h.left_is;
+  same = h.same;
+}
+stops_so lines reader reader' now' input bytes left (refusals.BadInput at kind) so_far h = (
+  fault_next input (record { count = reader.place.count; begun = reader.place.begun; lines = lines }) (texts_in bytes)
+      so_far at h.0,
+  h.1,
+)
+stops_so lines reader reader' now' input bytes left refusals.Spent so_far h = h
+
 -- ---- the end
 
 module _ (source now now' a b : Seen) (p q : List ℕ) (reader reader' : ReaderState) (run : ScriptRun) (opened : Bool)
@@ -240,26 +258,6 @@ module _ (source now now' a b : Seen) (p q : List ℕ) (reader reader' : ReaderS
     put = far.put;
   }
 
-  stops_so : (input : List ℕ) (bytes : List ℕ) (left : Option (List ℕ)) (refusal : ReadRefusal)
-      → SoFar input behind_now (texts_in bytes)
-      → Tells reader.place reader'.place bytes (unread reader'.held now') left (Err refusal)
-      → StopsBehind far.lines input left refusal
-  stops_so input bytes left refusals.ReadFault so_far h = record {
-    behind = behind_now;
-    more = texts_in bytes;
-    so_far = so_far;
-    says = refl;
-    now = record { count = reader'.place.count; begun = reader'.place.begun; lines = far.lines };
-    part = h.part;
-    rest = h.rest;
-    inside = h.inside;
-    left_is = h.left_is;
-    same = h.same;
-  }
-  stops_so input bytes left (refusals.BadInput at kind) so_far h =
-      (fault_next input behind_now (texts_in bytes) so_far at h.0, h.1)
-  stops_so input bytes left refusals.Spent so_far h = h
-
   pub refused_behind : (refusal : ReadRefusal)
       → ((bytes : List ℕ) → unread reader.held now ≡ Some bytes
       → Tells reader.place reader'.place bytes (unread reader'.held now') now'.told (Err refusal))
@@ -268,6 +266,7 @@ module _ (source now now' a b : Seen) (p q : List ℕ) (reader reader' : ReaderS
     lines = far.lines;
     ends = λ input is.
         let before = far.given input is in
-        stops_so input before.bytes now'.told refusal before.so_far (tells before.bytes before.left_is);
+        stops_so far.lines reader reader' now' input before.bytes now'.told refusal before.so_far
+        (tells before.bytes before.left_is);
     put = far.put;
   }

@@ -42,10 +42,10 @@ back_from (e ∷ es) = ap (λ (more : List Entry). e ∷ more) (back_from es)
 
 module _ (asked : Collection) (history : List SubAgent) (deliveries : List Delivery) where
   -- the report that is due
-  abbrev due : ShownTaps → List ℕ
+  abbrev pub due : ShownTaps → List ℕ
   due taps = report_with asked.interfaces (account asked.limits history deliveries) (account_classes asked.limits deliveries) taps
 
-  report_due : (taps : ShownTaps) (came : List Entry) → IsCollected asked.limits history deliveries came
+  pub report_due : (taps : ShownTaps) (came : List Entry) → IsCollected asked.limits history deliveries came
       → collected_text asked taps came ≡ due taps
   unfolding report_of
   report_due taps came d =

@@ -1,6 +1,6 @@
 -- The device of a script behind one line more.
-use Rattle.std.proofs.Common.{◌≡◌, ◌∙◌, ◌≤◌, ◌||◌, inl, inr, cond, not, ℕ, zero, suc, Bool, true, false, List, [], ◌∷◌, length, map, reverse, set, Some, None, Result, Ok, Err, IfOk, OnOk, refl, ap, sym, subst, arith, rules, slice_get}
-use Rattle.std.specs.Prelude.{nat_lt, IsErr}
+use Rattle.std.proofs.Common.{◌≡◌, ◌∙◌, ◌≤◌, ◌||◌, inl, inr, cond, not, ℕ, zero, suc, Bool, true, false, List, [], ◌∷◌, length, map, reverse, set, Some, None, refl, ap, sym, subst, arith, slice_get}
+use Rattle.std.specs.Prelude.{◌+◌, nat_lt}
 use Rattle.std.specs.List.{AllByRecursion, list_any}
 use Rattle.std.proofs.lemmas.Bool.{and_parts, and_from, eq-eqb, eqb-true, leb-true, or_right, true≢false}
 use Rattle.std.proofs.lemmas.Bool.Decides.{nat_tests}
@@ -18,7 +18,7 @@ use Rattle.agent_setups.specs.Ids.{is_among, same_id}
 use Rattle.script_spec.specs.Values.{Place, place}
 use Rattle.script_spec.specs.Forms.{interface}
 use Rattle.script_spec.specs.Lines.{Line, PacketLine, RestartLine, ResetLine, SubAgent, place_of}
-use Rattle.script_spec.specs.Agents.{counters_at, counters_of, flows_of, poll_at, send_at, sources_in, subs_in}
+use Rattle.script_spec.specs.Agents.{sources_in, subs_in}
 use Rattle.script_spec.specs.Agents as agents
 use Rattle.script_laws.specs.Written.{is_single, may_be_written}
 use Rattle.script_laws.specs.Lawful.{AreLawful}
@@ -36,12 +36,21 @@ use Rattle.agent_poller.specs.Polling.{PollerState}
 use Rattle.sub_agents.specs.Setups.{flow_source, counter_source}
 use Rattle.sub_agents.specs.Packets.{packet_of, ports_fit}
 use Rattle.sub_agents.specs.Counts.{flow_setup, counter_setup, flow_sources, polled_sources}
-use Rattle.sub_agents.specs.Answers.{refusal, refusal_in, seen_by, source_of_kind, sources_of_kind}
+use Rattle.sub_agents.specs.Answers.{refusal, seen_by, source_of_kind, sources_of_kind}
 use Rattle.sub_agents.specs.Polls.{counters_fit}
 use Rattle.sub_agents.specs.SubAgents as subs
-use Rattle.sub_agents.specs.SubAgents.{SubAgentState, BootSoFar, StandsFor, next_boot, so_far, with_event}
+use Rattle.sub_agents.specs.SubAgents.{SubAgentState, BootSoFar, StandsFor, next_boot, with_event}
 use Rattle.sub_agents.specs.Devices.{DeviceState, StandForEach, device_refusal, has_kind, with_sub}
-use Rattle.sub_agents.proofs.Homes.{stand-set}
+use Rattle.sub_agents.specs.Devices as devices
+use Rattle.sub_agents.specs.declared.packet.Seen.TheVariants as device_answers
+use Rattle.sub_agents.proofs.Homes.{found-none, stand-set}
+use Rattle.agent_spec.specs.Marks.{is_marked}
+use Rattle.agent_sampler.specs.Following.{counts_after, has_place}
+use Rattle.agent_sampler.specs.Sampling.{word_behind}
+use Rattle.true_samples.specs.declared.calls.Seen.TheVariants as answers
+use Rattle.true_samples.specs.Counts.{id_in, seen_of}
+use Rattle.sflow_tool.specs.Steps.{HappensAt, Observes, ResetsAt, RestartsAt, seen_as}
+use Rattle.sflow_tool.proofs.Earlier.{behind_at, behind_of, earlier_stays, restart_earlier}
 use Rattle.sflow_tool.specs.ScriptBoots.{DeviceOf, boot_now, boots_now}
 use Rattle.sflow_tool.proofs.Roomy.{HasAddress, IsRoomy, counters_have_room, each_has, packets_fit, roomy, roomy_at}
 use Rattle.sflow_tool.proofs.ScriptBoots.{at_boot, packet_boots, reset_boots, restart_boots}
@@ -201,28 +210,61 @@ roomy_all lines lawful =
 
 abbrev Saw : DeviceState → DeviceState → SourceId → Packet → Seen → List BootSoFar → Type 0
 Saw old new id p seen boots =
-    (k : ℕ) × (b : BootSoFar) × (f : spec.FlowSetup) × (slice_get boots k ≡ Some b) × IsAmong f b.setup.flows
+    (k : ℕ) × (devices.home_of true id old.subs ≡ Some k)
+    × (b : BootSoFar) × (f : spec.FlowSetup) × (slice_get boots k ≡ Some b) × IsAmong f b.setup.flows
     × (f.source ≡ flow_source id) × (seen ≡ seen_by f b)
     × StandForEach new.subs (set boots k (with_event (Observe f (packet_of p)) b))
 
-pub observed : (old new : DeviceState) (id : SourceId) (p : Packet) (result : Result Seen ObserveRefusal) (lines : List Line)
-    → AreLawful (PacketLine (place_of (source_said true id)) (packet_of p) ∷ lines) → DeviceOf old lines
-    → refusal_in result ≡ device_refusal id p old.subs
-    → ((boots : List BootSoFar) → StandForEach old.subs boots → IfOk result (λ seen. Saw old new id p seen boots))
-    → DeviceOf new (PacketLine (place_of (source_said true id)) (packet_of p) ∷ lines)
-observed old new id p result lines lawful h refused stands = go result refused (stands (boots_now lines) h)
+same_answer : (f : spec.FlowSetup) (b : BootSoFar) → seen_as (seen_by f b) ≡ seen_of b.setup f b.events
+same_answer f b = go (is_marked f.skips (1 + (counts_after b.setup f.source b.events).packets)) (has_place b.setup b.events)
+    (word_behind f.first (counts_after b.setup f.source b.events).issued)
   where
-    none : device_refusal id p old.subs ≡ None
-    none =
-        none_refuses id p old.subs (boots_now lines) h (roomy_all lines lawful.2) (single_of (place_of (source_said true id)) p lawful.0)
-        (kind_home true id old.subs lines lawful.2 h (rules_met (PacketLine (place_of (source_said true id)) (packet_of p)) lines lawful.1))
+    go : (marked there : Bool) (word : ℕ)
+        → seen_as (cond marked (cond there (device_answers.Issued word) device_answers.Dropped) device_answers.Passed)
+        ≡ cond marked (cond there answers.Issued answers.Dropped) answers.Passed
+    go true true word = refl
+    go true false word = refl
+    go false there word = refl
 
-    go : (r : Result Seen ObserveRefusal) → refusal_in r ≡ device_refusal id p old.subs
-        → IfOk r (λ seen. Saw old new id p seen (boots_now lines))
-        → DeviceOf new (PacketLine (place_of (source_said true id)) (packet_of p) ∷ lines)
-    go (Ok seen) is (k, b, f, at, among, source, what, next) =
-        subst (StandForEach new.subs) (packet_boots lines (place_of (source_said true id)) (packet_of p) k b f lawful.2 at among source) next
-    go (Err e) is saw = absurd (let bad : Some e ≡ None = is ∙ none in cc)
+abbrev pub packet_line : SourceId → Packet → Line
+packet_line id p = PacketLine (place_of (source_said true id)) (packet_of p)
+
+-- some sub-agent has the source, and takes the packet
+pub packet_home : (old : DeviceState) (id : SourceId) (p : Packet) (lines : List Line) → AreLawful (packet_line id p ∷ lines)
+    → DeviceOf old lines → has_kind true id old.subs ≡ true
+packet_home old id p lines lawful h = kind_home true id old.subs lines lawful.2 h (rules_met (packet_line id p) lines lawful.1)
+
+pub observed_none : {P : Type 0} (old : DeviceState) (id : SourceId) (p : Packet) (lines : List Line)
+    → AreLawful (packet_line id p ∷ lines) → DeviceOf old lines → devices.home_of true id old.subs ≡ None → P
+observed_none old id p lines lawful h none =
+    absurd (true≢false (sym (packet_home old id p lines lawful h) ∙ (found-none true id old.subs none).none))
+
+pub observed_refused : {P : Type 0} (old : DeviceState) (id : SourceId) (p : Packet) (e : ObserveRefusal) (lines : List Line)
+    → AreLawful (packet_line id p ∷ lines) → DeviceOf old lines → Some e ≡ device_refusal id p old.subs → P
+observed_refused old id p e lines lawful h refused =
+    absurd (let bad : Some e ≡ None = refused
+    ∙ none_refuses id p old.subs (boots_now lines) h (roomy_all lines lawful.2) (single_of (place_of (source_said true id)) p lawful.0)
+    (packet_home old id p lines lawful h) in cc)
+
+pub observed : (old new : DeviceState) (id : SourceId) (p : Packet) (place : ℕ) (seen : Seen) (lines : List Line)
+    → AreLawful (packet_line id p ∷ lines) → devices.home_of true id old.subs ≡ Some place
+    → Saw old new id p seen (boots_now lines)
+    → DeviceOf new (packet_line id p ∷ lines) × Observes lines (packet_line id p) place id (seen_as seen)
+observed old new id p place seen lines lawful home (k, there, b, f, at, among, source, what, next) =
+    let same : k ≡ place = same_Some _ _ (sym there ∙ home) in
+    let boots = packet_boots lines (place_of (source_said true id)) (packet_of p) k b f lawful.2 at among source in (
+      subst (StandForEach new.subs) boots next,
+      record {
+        boot = b;
+        flow = f;
+        packet = packet_of p;
+        happens = subst (λ (n : ℕ). HappensAt lines (packet_line id p) n b (Observe f (packet_of p))) same
+            (record { there = at; boots = sym boots; earlier = earlier_stays (packet_line id p) lines refl; delivers_none = refl });
+        among = among;
+        source_is = ap id_in source;
+        seen_is = ap seen_as what ∙ same_answer f b;
+      },
+    )
 
 -- ---- a reset
 
@@ -230,9 +272,9 @@ pub reset_source : (flow : Bool) (id : SourceId) → source_of_kind flow id ≡ 
 reset_source true id = refl
 reset_source false id = refl
 
-abbrev Began : DeviceState → Bool → SourceId → List BootSoFar → Type 0
-Began new flow id boots =
-    (k : ℕ) × (b : BootSoFar) × (slice_get boots k ≡ Some b)
+abbrev Began : DeviceState → DeviceState → Bool → SourceId → List BootSoFar → Type 0
+Began old new flow id boots =
+    (k : ℕ) × (devices.home_of flow id old.subs ≡ Some k) × (b : BootSoFar) × (slice_get boots k ≡ Some b)
     × StandForEach new.subs (set boots k (with_event (Reset (source_of_kind flow id)) b))
 
 set_there : {X : Type 0} (xs : List X) (k : ℕ) (x y : X) → slice_get xs k ≡ Some x → slice_get (set xs k y) k ≡ Some y
@@ -240,20 +282,41 @@ set_there [] k x y e = absurd cc
 set_there (z ∷ more) zero x y e = refl
 set_there (z ∷ more) (suc k) x y e = set_there more k x y e
 
-pub reset_done : {E : Type 0} (old new : DeviceState) (flow : Bool) (id : SourceId) (result : Result (Unit {0}) E) (lines : List Line)
-    → AreLawful (ResetLine (source_said flow id) ∷ lines) → DeviceOf old lines
-    → (IsErr result → has_kind flow id old.subs ≡ false)
-    → OnOk result (Began new flow id (boots_now lines))
-    → DeviceOf new (ResetLine (source_said flow id) ∷ lines)
-reset_done old new flow id (Ok x) lines lawful h refused (k, b, at, next) =
+abbrev reset_line : Bool → SourceId → Line
+reset_line flow id = ResetLine (source_said flow id)
+
+pub reset_home : (old : DeviceState) (flow : Bool) (id : SourceId) (lines : List Line) → AreLawful (reset_line flow id ∷ lines)
+    → DeviceOf old lines → has_kind flow id old.subs ≡ true
+reset_home old flow id lines lawful h = kind_home flow id old.subs lines lawful.2 h (rules_met (reset_line flow id) lines lawful.1)
+
+pub reset_none : {P : Type 0} (old : DeviceState) (flow : Bool) (id : SourceId) (lines : List Line)
+    → AreLawful (reset_line flow id ∷ lines) → DeviceOf old lines → devices.home_of flow id old.subs ≡ None → P
+reset_none old flow id lines lawful h none =
+    absurd (true≢false (sym (reset_home old flow id lines lawful h) ∙ (found-none flow id old.subs none).none))
+
+pub reset_refused : {P : Type 0} (old : DeviceState) (flow : Bool) (id : SourceId) (lines : List Line)
+    → AreLawful (reset_line flow id ∷ lines) → DeviceOf old lines → has_kind flow id old.subs ≡ false → P
+reset_refused old flow id lines lawful h none = absurd (true≢false (sym (reset_home old flow id lines lawful h) ∙ none))
+
+pub reset_done : (old new : DeviceState) (flow : Bool) (id : SourceId) (place : ℕ) (lines : List Line)
+    → AreLawful (reset_line flow id ∷ lines) → devices.home_of flow id old.subs ≡ Some place
+    → Began old new flow id (boots_now lines)
+    → DeviceOf new (reset_line flow id ∷ lines) × ResetsAt lines (reset_line flow id) place flow id
+reset_done old new flow id place lines lawful home (k, there, b, at, next) =
+    let same : k ≡ place = same_Some _ _ (sym there ∙ home) in
     let here = sub_at new.subs _ k (with_event (Reset (source_of_kind flow id)) b) next (set_there (boots_now lines) k b _ at) in
     let had : HasSource b.setup (source_said flow id) =
     subst (HasSource b.setup) (reset_source flow id) here.stands.lawful.0 in
-    subst (StandForEach new.subs)
-    (ap (λ (s : Source). set (boots_now lines) k (with_event (Reset s) b)) (reset_source flow id)
-    ∙ reset_boots lines (source_said flow id) k b lawful.2 at had) next
-reset_done old new flow id (Err e) lines lawful h refused began =
-    absurd (true≢false (sym (kind_home flow id old.subs lines lawful.2 h (rules_met (ResetLine (source_said flow id)) lines lawful.1)) ∙ refused (search rules)))
+    let boots = reset_boots lines (source_said flow id) k b lawful.2 at had in (
+      subst (StandForEach new.subs)
+          (ap (λ (s : Source). set (boots_now lines) k (with_event (Reset s) b)) (reset_source flow id) ∙ boots) next,
+      record {
+        boot = b;
+        happens = subst (λ (n : ℕ). HappensAt lines (reset_line flow id) n b (Reset (source_said flow id))) same
+            (record { there = at; boots = sym boots; earlier = earlier_stays (reset_line flow id) lines refl; delivers_none = refl });
+        among = had;
+      },
+    )
 
 -- ---- a restart
 
@@ -293,7 +356,17 @@ set_stands old new lines k state b h is stands =
 
 pub restarted : (old new : DeviceState) (lines : List Line) (id at k : ℕ) (x : At old lines id k) → AreLawful (RestartLine id at ∷ lines)
     → DeviceOf old lines → (state : SubAgentState) × (new ≡ with_sub k state old) × StandsFor state (next_boot (boot_now lines x.sub))
-    → DeviceOf new (RestartLine id at ∷ lines)
+    → DeviceOf new (RestartLine id at ∷ lines) × RestartsAt lines (RestartLine id at) k
 restarted old new lines id at k x lawful h (state, is, stands) =
-    subst (StandForEach new.subs) (restart_boots lines id at k x.sub lawful.2 x.there x.own)
-    (set_stands old new lines k state (next_boot (boot_now lines x.sub)) h is stands)
+    let boots = restart_boots lines id at k x.sub lawful.2 x.there x.own in (
+      subst (StandForEach new.subs) boots (set_stands old new lines k state (next_boot (boot_now lines x.sub)) h is stands),
+      record {
+        boot = boot_now lines x.sub;
+        behind = behind_of lines x.sub;
+        there = x.boot;
+        behind_is = behind_at lines k x.sub x.there;
+        boots = sym boots;
+        earlier = restart_earlier lines id at k x.sub lawful.2 x.there x.own;
+        delivers_none = refl;
+      },
+    )

@@ -8,7 +8,6 @@ use Rattle.wire_spec.specs.Shapes.{Tree}
 use Rattle.data_format.specs.Records.{Content}
 use Rattle.data_format.specs.declared.source.SourceId.{SourceId}
 use Rattle.agent_spec.specs.Sources as spec
-use Rattle.agent_spec.specs.Sources.{Source}
 use Rattle.agent_spec.specs.Samples.{Setup}
 use Rattle.agent_spec.specs.Events.{Event, Poll}
 use Rattle.agent_spec.specs.Boots.{IsAmong, due_sources, happened, is_due}
@@ -30,7 +29,9 @@ use Rattle.sub_agents.specs.Devices.{DeviceState, StandForEach, with_sub}
 use Rattle.sflow_tool.specs.ScriptBoots.{DeviceOf, boot_now}
 use Rattle.sflow_tool.proofs.Roomy.{IsRoomy, counters_have_room, roomy_at}
 use Rattle.sflow_tool.proofs.ScriptBoots.{poll_boots}
+use Rattle.sflow_tool.specs.Steps.{HappensAt, PollsAt}
 use Rattle.sflow_tool.proofs.DeviceLines.{At, set_stands}
+use Rattle.sflow_tool.proofs.Earlier.{earlier_stays}
 
 abbrev no_faults : List CountedRow → ℕ
 no_faults m = 0
@@ -161,17 +162,30 @@ module _ (old new : DeviceState) (m m' : List CountedRow) (lines : List Line) (i
   zero_next : 0 ≡ next_count 0 → ⊥
   zero_next e = omega (arith, e)
 
+  -- the poll is no error
+  abbrev PollDone : Result ℕ PollRefusal → Type 0
+  PollDone (Ok count) = DeviceOf new (PollLine id now ∷ lines) × (m' ≡ m) × PollsAt lines (PollLine id now) k now count
+  PollDone (Err e) = ⊥
+
   pub polled : (result : Result ℕ PollRefusal) → ((result ≡ Err TooLarge) ↔ (counters_fit x.state ≡ false))
       → (state : SubAgentState) × (new ≡ with_sub k state old) × Polls gives_counters no_faults x.state state b now m m' result
-      → DeviceOf new (PollLine id now ∷ lines) × (m' ≡ m)
+      → PollDone result
   polled (Ok n) large (state, is, done) =
       let p = done.0 in
       let r = readings_are state p (done.1 ∙ done.2) in
-      let event : Poll now p.readings ≡ poll_at b.setup now b.events = is_poll b.setup now b.events p.readings r.0 in (
-        subst (StandForEach new.subs) (poll_boots lines id now k x.sub lawful.2 x.there x.own)
+      let event : Poll now p.readings ≡ poll_at b.setup now b.events = is_poll b.setup now b.events p.readings r.0 in
+      let boots = poll_boots lines id now k x.sub lawful.2 x.there x.own in (
+        subst (StandForEach new.subs) boots
             (set_stands old new lines k state (with_event (poll_at b.setup now b.events) b) h is
             (subst (λ (e : Event). StandsFor state (with_event e b)) event p.stands)),
         r.1,
+        record {
+          boot = b;
+          readings = p.readings;
+          happens = subst (HappensAt lines (PollLine id now) k b) (sym event)
+              (record { there = x.boot; boots = sym boots; earlier = earlier_stays (PollLine id now) lines refl; delivers_none = refl });
+          count_is = done.1;
+        },
       )
   polled (Err TooLarge) large done =
       absurd (true≢false (sym (counters_have_room x.state (subst IsRoomy (sym x.stands.sender) (roomy_at lines k x.sub lawful.2 x.there)))

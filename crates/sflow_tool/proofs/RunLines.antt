@@ -4,11 +4,12 @@ use Rattle.std.specs.declared.option.Option.{Option}
 use Rattle.std.specs.declared.option.Option.TheVariants.{Some, None}
 use Rattle.std.specs.List.{list_all}
 use Rattle.std.specs.Result.{is_err}
-use Rattle.std.proofs.lemmas.Bool.{and_from, le-leb, true≢false}
+use Rattle.std.specs.Prelude.{is_some}
+use Rattle.std.proofs.lemmas.Bool.{and_from, and_parts, le-leb, true≢false}
 use Rattle.std.proofs.lemmas.Option.{same_Some}
-use Rattle.script_spec.specs.Lines.{Delivery, DeliverLine, Line, SendLine, SubAgent}
-use Rattle.script_spec.specs.Agents.{subs_in}
-use Rattle.script_spec.specs.Rules.{may_follow, sets_up}
+use Rattle.script_spec.specs.Lines.{Delivery, DeliverLine, Line, PollLine, SendLine, SubAgent}
+use Rattle.script_spec.specs.Agents.{delivered, subs_in}
+use Rattle.script_spec.specs.Rules.{may_follow, sets_up, stands_in_order}
 use Rattle.script_laws.specs.Lawful.{AreLawful}
 use Rattle.script_laws.proofs.Happens.{in_order}
 use Rattle.script_tables.specs.Said.{SetsUp, SetupsState}
@@ -21,10 +22,12 @@ use Rattle.sflow_tool.proofs.Roomy.{all_at, stage_few}
 use Rattle.script_meter.specs.declared.meter.CountedRow.{CountedRow}
 use Rattle.script_meter.specs.Tallies.{Counts}
 use Rattle.sub_agents.specs.Devices.{DeviceState, StandForEach}
-use Rattle.script_spec.specs.Sent.{sent_by}
 use Rattle.script_meter.proofs.MeterLines.{deliver_counts}
 use Rattle.sflow_tool.proofs.ScriptBoots.{deliver_boots}
 use Rattle.sflow_tool.proofs.SendLines.{later_at}
+use Rattle.sflow_tool.proofs.Earlier.{earlier_stays}
+use Rattle.sflow_tool.proofs.Starts.{delivered_sub}
+use Rattle.sflow_tool.specs.Steps.{ArrivesFrom}
 use Rattle.sflow_tool.specs.ScriptBoots.{DeviceOf}
 use Rattle.sflow_tool.specs.ScriptRuns.{HasDevice, IsStarted, StandsFor}
 use Rattle.sflow_tool.specs.declared.script_run.ScriptRun.{ScriptRun}
@@ -140,16 +143,28 @@ within_sent d lines id now k at h s =
 
 -- ---- a delivery
 
-pub delivered : (r : ScriptRun) (lines : List Line) (line : Line) (d : Delivery) (tables : TablesState) → line ≡ DeliverLine d
-    → AreLawful (line ∷ lines) → IsStarted r lines → (Tells r.tables lines → Tells tables (DeliverLine d ∷ lines))
-    → StandsFor (record { tables = tables; setups = r.setups; meter = r.meter; device = r.device }) (line ∷ lines)
-    × ([] ≡ sent_by lines line)
-delivered r lines line d tables is lawful h tells =
-    let l : AreLawful (DeliverLine d ∷ lines) = subst (λ (x : Line). AreLawful (x ∷ lines)) is lawful in
-    subst (λ (x : Line). StandsFor (record { tables = tables; setups = r.setups; meter = r.meter; device = r.device }) (x ∷ lines)
-    × ([] ≡ sent_by lines x)) (sym is) (
-      running r.setups r.device (DeliverLine d) lines tables r.meter h.device h.is_open l refl (tells h.tables)
-          (deliver_counts r.meter lines h.counts d)
-          (subst (StandForEach h.device.subs) (deliver_boots lines d) h.stands),
-      refl,
-    )
+-- a sub-agent that sent what is delivered may poll
+delivery_acts : (lines : List Line) (d : Delivery) → may_follow lines (DeliverLine d) ≡ true → may_follow lines (PollLine d.id 0) ≡ true
+unfolding may_follow
+delivery_acts lines d may = delivered_sub lines d (and_parts (stands_in_order lines (DeliverLine d)) (is_some (delivered lines d)) may).1
+
+pub delivered_none : {P : Type 0} (lines : List Line) (d : Delivery) → AreLawful (DeliverLine d ∷ lines)
+    → false ≡ may_follow lines (PollLine d.id 0) → P
+delivered_none lines d lawful none = absurd (true≢false (sym (delivery_acts lines d lawful.1) ∙ sym none))
+
+pub delivered_line : (r : ScriptRun) (lines : List Line) (d : Delivery) (tables : TablesState) (place at : ℕ)
+    → AreLawful (DeliverLine d ∷ lines) → IsStarted r lines → Tells tables (DeliverLine d ∷ lines) → StandsAt lines d.id place at
+    → StandsFor (record { tables = tables; setups = r.setups; meter = r.meter; device = r.device }) (DeliverLine d ∷ lines)
+    × ArrivesFrom lines (DeliverLine d) place d.boot d.number d.at
+delivered_line r lines d tables place at lawful h tells s = (
+  running r.setups r.device (DeliverLine d) lines tables r.meter h.device h.is_open lawful refl tells
+      (deliver_counts r.meter lines h.counts d)
+      (subst (StandForEach h.device.subs) (deliver_boots lines d) h.stands),
+  record {
+    sub = s.sub;
+    there = s.there;
+    line_is = ap (λ (n : ℕ). DeliverLine (record { id = n; boot = d.boot; number = d.number; at = d.at })) (sym s.own);
+    boots = sym (deliver_boots lines d);
+    earlier = earlier_stays (DeliverLine d) lines refl;
+  },
+)

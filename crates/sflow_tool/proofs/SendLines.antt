@@ -28,7 +28,10 @@ use Rattle.sub_agents.specs.SubAgents.{BootSoFar, StandsFor, SubAgentState, so_f
 use Rattle.sub_agents.specs.Devices.{DeviceState, StandForEach, with_sub}
 use Rattle.sflow_tool.specs.ScriptBoots.{DeviceOf, boot_now, put_entry}
 use Rattle.sflow_tool.proofs.ScriptBoots.{line_boots, send_boots}
+use Rattle.true_samples.specs.Sends.{datagrams_from, leaving}
+use Rattle.sflow_tool.specs.Steps.{HappensAt, bytes_put}
 use Rattle.sflow_tool.proofs.DeviceLines.{At, set_stands, stands_at}
+use Rattle.sflow_tool.proofs.Earlier.{earlier_stays}
 
 -- ---- the datagrams of a send
 
@@ -121,7 +124,7 @@ found_sub id (x ∷ more) s h is = go (is_of id x) refl h (found_sub id more s)
         absurd (true≢false (sym (eq-eqb x.id id (ap (λ (y : SubAgent). y.id) (sym a) ∙ is)) ∙ e))
     go false e (inr a) others = let f = others a is in (f.0, f.1, inr f.2, f.3)
 
-sub_found : (lines : List Line) (id : ℕ) (s : SubAgent) → AreLawful lines → IsAmong s (subs_in lines) → s.id ≡ id
+pub sub_found : (lines : List Line) (id : ℕ) (s : SubAgent) → AreLawful lines → IsAmong s (subs_in lines) → s.id ≡ id
     → sub_of id lines ≡ Some s
 sub_found lines id s lawful among is =
     let f = found_sub id (subs_in lines) s among is in
@@ -179,20 +182,51 @@ took_all : (old new puts : List PutView) → old ≡ [] → Took (Some old) (Som
 took_all old new puts none took =
     same_Some _ _ (took old refl) ∙ ap (λ (l : List PutView). l ++ puts) none
 
+abbrev bytes_at : BootSoFar → ℕ → ℕ → List (List Sample) → List (List ℕ)
+bytes_at b now number ds = map (sent_bytes b.sender) (datagrams_from number now ds)
+
+puts_leave : (b : BootSoFar) (now count number : ℕ) (ds : List (List Sample)) → number ≡ b.setup.first + count
+    → map bytes_put (puts_behind b now count ds) ≡ bytes_at b now number ds
+puts_leave b now count number [] is = refl
+puts_leave b now count number (d ∷ more) is =
+    ap (λ (n : ℕ). sent_bytes b.sender (record { number = n; uptime = now; samples = d }) ∷ map bytes_put (puts_behind b now (1 + count) more))
+    (sym is)
+    ∙ ap (λ (l : List (List ℕ)). sent_bytes b.sender (record { number = number; uptime = now; samples = d }) ∷ l)
+    (puts_leave b now (1 + count) (1 + number) more (omega (arith, is)))
+
+puts_long : (b : BootSoFar) (now count : ℕ) (ds : List (List Sample)) → length (puts_behind b now count ds) ≡ length ds
+puts_long b now count [] = refl
+puts_long b now count (d ∷ more) = ap (λ (n : ℕ). suc n) (puts_long b now (1 + count) more)
+
 pub sent : (old new : DeviceState) (lines : List Line) (id now k at n : ℕ) (taken taken' : List PutView) (s : StandsAt lines id k at)
     (x : At old lines id k) → AreLawful (SendLine id now ∷ lines) → DeviceOf old lines → x.sub ≡ s.sub → taken ≡ []
     → (state : SubAgentState) × (new ≡ with_sub k state old) × Sends state (boot_now lines x.sub) now (Some taken) (Some taken') (Ok n)
-    → DeviceOf new (SendLine id now ∷ lines) × (map (put_entry (at + now)) taken' ≡ sent_by lines (SendLine id now))
+    → DeviceOf new (SendLine id now ∷ lines)
+    × ((boot : BootSoFar) × HappensAt lines (SendLine id now) k boot (Send now (length taken'))
+    × (map bytes_put taken' ≡ map (sent_bytes boot.sender) (leaving boot.setup now (so_far boot))))
+    × (map (put_entry (at + now)) taken' ≡ sent_by lines (SendLine id now))
 sent old new lines id now k at n taken taken' s x lawful h same none (state, is, done) =
     let b : BootSoFar = boot_now lines x.sub in
     let event : Send now n ≡ send_at b.setup now b.events = is_send b.setup now n b.events done.0 in
     let puts : taken' ≡ puts_of b now n = took_all taken taken' (puts_of b now n) none done.1 in
     let all : take n (packed b.setup (so_far b)) ≡ packed b.setup (so_far b) =
     ap (λ (m : ℕ). take m (packed b.setup (so_far b))) done.0 ∙ take_whole (packed b.setup (so_far b)) in
+    let whole : taken' ≡ puts_behind b now (length (so_far b).sent) (packed b.setup (so_far b)) =
+    puts ∙ ap (λ (ds : List (List Sample)). puts_behind b now (length (so_far b).sent) ds) all in
+    let long : length taken' ≡ length (packed b.setup (so_far b)) =
+    ap length whole ∙ puts_long b now (length (so_far b).sent) (packed b.setup (so_far b)) in
+    let boots = send_boots lines id now k x.sub lawful.2 x.there x.own in
     let time : (newest (boots_of lines x.sub)).at ≡ at = ap (λ (t : SubAgent). (newest (boots_of lines t)).at) same ∙ s.at_is in (
-      subst (StandForEach new.subs) (send_boots lines id now k x.sub lawful.2 x.there x.own)
+      subst (StandForEach new.subs) boots
           (set_stands old new lines k state (subs.with_event (send_at b.setup now b.events) b) h is
           (subst (λ (e : Event). StandsFor state (subs.with_event e b)) event done.2)),
+      (
+        b,
+        subst (HappensAt lines (SendLine id now) k b) (sym (is_send b.setup now (length taken') b.events long))
+            (record { there = x.boot; boots = sym boots; earlier = earlier_stays (SendLine id now) lines refl; delivers_none = refl }),
+        ap (map bytes_put) whole
+            ∙ puts_leave b now (length (so_far b).sent) (b.setup.first + length (so_far b).sent) (packed b.setup (so_far b)) refl,
+      ),
       ap (map (put_entry (at + now))) puts
           ∙ ap (λ (ds : List (List Sample)). map (put_entry (at + now)) (puts_behind b now (length (so_far b).sent) ds)) all
           ∙ puts_are lines x.sub b id now at (length (so_far b).sent) (packed b.setup (so_far b)) refl

@@ -14,7 +14,7 @@ use Rattle.agent_setups.specs.declared.setup.OpenRefusal.TheVariants.{BadSetup}
 use Rattle.agent_setups.specs.declared.setup.Setup.{Setup}
 use Rattle.agent_setups.specs.Lists.{device_fault, form_for}
 use Rattle.script_spec.specs.Lines.{Line, MaxLine, SubLine, FlowLine, CounterLine, PacketLine, PollLine, SendLine, RestartLine, ResetLine, DeliverLine, Delivery, SubAgent, flow_at}
-use Rattle.script_spec.specs.Agents.{AgentBoot, begun_at, boots_of, delivered, delivered_of, is_of, setup_of, sub_of, subs_in}
+use Rattle.script_spec.specs.Agents.{AgentBoot, delivered, delivered_of, is_of, setup_of, sub_of, subs_in}
 use Rattle.script_spec.specs.Agents as agents
 use Rattle.script_spec.specs.Rules.{may_follow, sets_up}
 use Rattle.script_laws.specs.Lawful.{AreLawful}
@@ -131,7 +131,7 @@ some_found : {X : Type 0} (q : X → Bool) (xs : List X) → is_some (find q xs)
 some_found q [] e = absurd cc
 some_found q (x ∷ more) e = omega arith
 
-delivered_sub : (lines : List Line) (d : Delivery) → is_some (delivered lines d) ≡ true → is_some (sub_of d.id lines) ≡ true
+pub delivered_sub : (lines : List Line) (d : Delivery) → is_some (delivered lines d) ≡ true → is_some (sub_of d.id lines) ≡ true
 unfolding delivered
 delivered_sub lines d e = go (sub_of d.id lines) e
   where

@@ -5,12 +5,15 @@ pub mod Canons
 pub mod Replays
 pub mod Pcaps
 pub mod ScriptBoots
+pub mod Trues
+pub mod Steps
 pub mod ScriptRuns
 pub mod Agents
 pub mod AgentWalks
 pub mod Surroundings
 pub mod Passing
 pub mod Collects
+pub mod Trials
 pub mod Relays
 pub mod Sends
 pub mod Performances

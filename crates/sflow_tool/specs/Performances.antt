@@ -1,7 +1,7 @@
 -- The commands' rows: the form of input that each reads, and what it does with it.
 use Rattle.std.specs.Prelude.{◌≡◌, ℕ, Bool, List, []}
 use Rattle.command_words.specs.declared.command.Command.{Command}
-use Rattle.command_words.specs.declared.command.Command.TheVariants.{Replay, Show, Check, Canon, Pcap, Collect, Send, Relay, Agent}
+use Rattle.command_words.specs.declared.command.Command.TheVariants.{Replay, Show, Check, Canon, Pcap, Collect, Send, Relay, Agent, Trial}
 use Rattle.command_runs.specs.declared.status.Status.{Status}
 use Rattle.command_runs.specs.declared.status.Status.TheVariants.{Done}
 use Rattle.command_runs.specs.Grammars.{captures, pcap_files, scripts}
@@ -20,6 +20,7 @@ use Rattle.sflow_tool.specs.Replays.{briefs_in, replay_act}
 use Rattle.sflow_tool.specs.Sends.{Sends, send_act}
 use Rattle.sflow_tool.specs.Shows.{show_act}
 use Rattle.sflow_tool.specs.Surroundings.{RunsBetween, RunsCollecting, Surroundings}
+use Rattle.sflow_tool.specs.Trials.{HasTriedLines, received_in, trial_act}
 
 -- a run of the command, from what its surroundings showed before it to what they show after it
 abbrev pub Performs : Command → Surroundings → Surroundings → Status → Type 0
@@ -32,6 +33,7 @@ Performs (Collect asked) = CollectsOver asked (collected_text asked)
 Performs (Send to) = Sends to
 Performs (Relay asked routes) = RelaysSo asked routes
 Performs Agent = RunsBetween scripts agent_act
+Performs (Trial limits interfaces) = RunsCollecting scripts (trial_act limits interfaces)
 
 -- The input alone makes a run of the command end so, if no call fails and memory is there. What the consumers show doesn't
 -- matter for that. What reads no input does its work, whatever the link gives.
@@ -45,8 +47,10 @@ EndsBy (Collect asked) = λ input ending. ending ≡ Done
 EndsBy (Send to) = Decides captures send_act
 EndsBy (Relay asked routes) = λ input ending. ending ≡ Done
 EndsBy Agent = Decides scripts agent_act
+EndsBy (Trial limits interfaces) = Decides scripts (trial_act limits interfaces no_taps)
 
--- The briefs of a run of the command: those of the entries that came before it ended, where it collects, and else none.
+-- The briefs of a run of the command: those of the entries that came before it ended, where it collects or tries, and else
+-- none.
 abbrev pub Feeds : Command → Surroundings → Surroundings → Status → List Brief → Type 0
 Feeds (Replay limits interfaces) before after status briefs =
     HasVisited (λ entries. briefs ≡ briefs_in limits entries) before.ends.source after.ends.source status
@@ -60,6 +64,8 @@ Feeds (Send to) before after status briefs = briefs ≡ []
 Feeds (Relay asked routes) before after status briefs =
     HasCome (λ entries. briefs ≡ briefs_in asked.limits entries) asked before.link after.link status
 Feeds Agent before after status briefs = briefs ≡ []
+Feeds (Trial limits interfaces) before after status briefs =
+    HasTriedLines (λ lines. briefs ≡ briefs_in limits (received_in lines)) before.ends.source after.ends.source status
 
 -- of the consumers that were handed in, those are held that the briefs of the run leave
 pub record IsFed {X : Type 0} (step : X → Brief → X → Type 0) (done : X → Bool) (c : Command) (before after : Surroundings)

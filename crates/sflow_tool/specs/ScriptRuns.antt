@@ -1,9 +1,8 @@
 -- What a run of a script stands for. Every list of lines has the LATEST FIRST.
-use Rattle.std.specs.Prelude.{◌≡◌, ◌<◌, ◌≤◌, true, false, List, [], ◌∷◌, length, map, Result, Ok, Err}
+use Rattle.std.specs.Prelude.{◌≡◌, ◌<◌, ◌≤◌, true, false, List, ◌∷◌, length, Result, Ok, Err}
 use Rattle.std.specs.declared.option.Option.{Option}
 use Rattle.std.specs.declared.option.Option.TheVariants.{Some, None}
 use Rattle.std.specs.List.{list_all}
-use Rattle.wire_spec.specs.Captures.{Entry}
 use Rattle.script_spec.specs.Lines.{Line}
 use Rattle.script_spec.specs.Agents.{subs_in}
 use Rattle.script_spec.specs.Rules.{may_follow, sets_up}
@@ -13,9 +12,10 @@ use Rattle.script_tables.specs.Said.{SetsUp, SetupsState}
 use Rattle.script_tables.specs.Tables.{Tells}
 use Rattle.script_meter.specs.Tallies.{Counts}
 use Rattle.sub_agents.specs.Devices.{DeviceState}
-use Rattle.sflow_tool.specs.ScriptBoots.{DeviceOf, put_entry}
+use Rattle.sflow_tool.specs.ScriptBoots.{DeviceOf}
+use Rattle.sflow_tool.specs.Steps.{IsStep, entries_of}
 use Rattle.sflow_tool.specs.declared.script_run.ScriptRun.{ScriptRun}
-use Rattle.sflow_tool.specs.declared.script_run.Sent.{Sent}
+use Rattle.sflow_tool.specs.declared.step.Step.{Step}
 use Rattle.sflow_tool.specs.declared.script_run.Unfit.{Unfit}
 use Rattle.sflow_tool.specs.declared.script_run.Unfit.TheVariants as unfit
 
@@ -50,14 +50,9 @@ HasSubs r = (lines : List Line) × StandsFor r lines × (1 ≤ length (subs_in l
 abbrev pub IsRunning : ScriptRun → Type 0
 IsRunning r = (lines : List Line) × IsStarted r lines × (length lines < 4294967296)
 
--- the datagrams that were sent, as they arrive
-abbrev pub entries_of : Option Sent → List Entry
-entries_of None = []
-entries_of (Some s) = map (put_entry s.at) s.datagrams.taken
-
 -- what a line makes of a run
-abbrev pub TakesLine : ScriptRun → List Line → Line → Result (Option Sent) Unfit → Type 0
-TakesLine new lines line (Ok sent) =
-    (may_follow lines line ≡ true) × StandsFor new (line ∷ lines) × (entries_of sent ≡ sent_by lines line)
+abbrev pub TakesLine : ScriptRun → List Line → Line → Result Step Unfit → Type 0
+TakesLine new lines line (Ok step) = (may_follow lines line ≡ true) × StandsFor new (line ∷ lines) × IsStep lines line step
+    × (entries_of step ≡ sent_by lines line)
 TakesLine new lines line (Err unfit.Breaks) = may_follow lines line ≡ false
 TakesLine new lines line (Err unfit.Memory) = may_follow lines line ≡ true

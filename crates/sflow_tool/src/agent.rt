@@ -15,9 +15,11 @@ ghost use Rattle.command_runs.specs.Runs.{Runs};
 ghost use Rattle.sflow_tool.specs.Agents.{agent_act, are_some, entries_put, opening};
 ghost use Rattle.sflow_tool.specs.AgentWalks.{HasLineCause, IsShort, IsShortPut, LeavesAtEnd, LineEnds, LinesEnd, entries_at, put_text, puts_text};
 ghost use Rattle.sflow_tool.specs.ScriptRuns.{IsSound, StandsFor};
+ghost use Rattle.sflow_tool.specs.Steps.{entries_of};
 
 use crate::canon::{put_entry, put_header};
 use crate::script_run::{ScriptRun, Sent, Unfit};
+use crate::step::Step;
 use agent_outlets::Put;
 use command_runs::{CaptureVersion, Status, flush, status_of};
 use script_laws::lines_are_written;
@@ -27,8 +29,8 @@ use std::alloc::Global;
 use text_lines::Page;
 use wire_spec::InputKind;
 
-// A script has at most so many lines.
-const MAX_LINES: u64 = 4_294_967_295;
+/// A script has at most so many lines.
+pub(crate) const MAX_LINES: u64 = 4_294_967_295;
 
 // Why a script was left before its end.
 #[derive(Clone, Copy, Debug, PartialEq, Eq)]
@@ -117,18 +119,17 @@ fn take_line<K: Sink>(
 {
     lines_are_written();
     match run.take(alloc, line) {
-        Ok(Some(sent)) => match put_sent(page, sink, opened, &sent) {
+        Ok(step) => match put_step(page, sink, opened, &step) {
             Ok(now) => Ok(now),
             Err(_) => Err(AgentStop::Write),
         },
-        Ok(None) => Ok(opened),
         Err(Unfit::Breaks) => Err(AgentStop::Read(broken(number))),
         Err(Unfit::Memory) => Err(AgentStop::Memory),
     }
 }
 
-// The line of this number breaks a rule.
-fn broken(number: u64) -> ReadRefusal
+/// The line of this number breaks a rule.
+pub(crate) fn broken(number: u64) -> ReadRefusal
     ensures { result ≡ BadInput number Script }
 {
     ReadRefusal::BadInput {
@@ -147,6 +148,25 @@ fn put_opening<K: Sink>(page: &mut Page, sink: &mut K, opened: bool) -> Result<(
         Ok(())
     } else {
         put_header(page, sink, CaptureVersion::One)
+    }
+}
+
+// What a line made the device send, and before the first datagram the header, unless it stands there. The answer is whether
+// it does now.
+fn put_step<K: Sink>(
+    page: &mut Page,
+    sink: &mut K,
+    opened: bool,
+    step: &Step,
+) -> Result<bool, Failed>
+    requires short { AllByRecursion IsShort (entries_of step.now) }
+    ensures prints { Prints (K.seen sink.old) (K.seen sink.new) page.old page.new result
+        (entries_put opened (entries_of step.now)) }
+    ensures opened { IfOk result (λ now. now ≡ (opened || are_some (entries_of step.now))) }
+{
+    match step {
+        Step::Sent { sent, .. } => put_sent(page, sink, opened, sent),
+        _ => Ok(opened),
     }
 }
 

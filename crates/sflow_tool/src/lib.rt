@@ -17,7 +17,11 @@ mod report;
 mod script_run;
 mod send;
 mod show;
+mod step;
 mod top;
+mod trial;
+mod trial_run;
+mod trues;
 
 pub use command_runs::{Line, Status};
 pub use command_words::Command;

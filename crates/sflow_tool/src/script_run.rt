@@ -1,22 +1,25 @@
 // A script as it is run: what its lines set up and make the device do.
 ghost use Rattle.std.specs.Prelude.{◌≡◌, ◌<◌, ◌≤◌, ◌++◌, [], ◌∷◌, true, false, ℕ, List, length, map, OnOk, MatchResult, if◌then◌else◌, IfOk};
 ghost use Rattle.std.specs.declared.result.Result.TheVariants.{Err};
+ghost use Rattle.std.specs.List.{list_all};
 ghost use Rattle.agent_spec.specs.Sources as spec;
 ghost use Rattle.data_format.specs.Addresses.{address_of};
 ghost use Rattle.script_spec.specs.Lines.{Line, MaxLine, SubLine, FlowLine, CounterLine, PacketLine, PollLine, SendLine, RestartLine, ResetLine, DeliverLine, SubAgent as SubSaid, Delivery, place_of};
 ghost use Rattle.script_spec.specs.Agents.{subs_in};
 ghost use Rattle.script_spec.specs.Rules.{may_follow as follows, sets_up as setting_up};
-ghost use Rattle.script_spec.specs.Sent.{sent_by};
 ghost use Rattle.script_laws.specs.Lawful.{AreLawful};
 ghost use Rattle.script_laws.specs.Written.{may_be_written};
 ghost use Rattle.script_lines.specs.Shown.{shown};
-ghost use Rattle.script_tables.specs.Said.{counter_said, flow_said, source_said};
+ghost use Rattle.script_tables.specs.Said.{AreSetUp, counter_said, flow_said, source_said};
 ghost use Rattle.script_tables.specs.Tables.{Tells};
 ghost use Rattle.sub_agents.specs.Packets.{packet_of};
-ghost use Rattle.sflow_tool.specs.ScriptRuns.{HasSubs, IsRunning, IsSound, IsStarted, StandsFor, TakesLine, entries_of};
+ghost use Rattle.sflow_tool.specs.ScriptRuns.{HasSubs, IsRunning, IsSound, IsStarted, StandsFor, TakesLine};
+ghost use Rattle.sflow_tool.specs.Steps.{Makes};
 
 use crate::device_lines;
+use crate::step::Step;
 use agent_outlets::ListOutlet;
+use agent_setups::Setup;
 use data_format::{Address, Port, SourceId};
 use script_lines::ScriptLine;
 use script_meter::ScriptMeter;
@@ -75,8 +78,8 @@ fn may_follow(tables: &ScriptTables, line: &ScriptLine) -> bool
     }
 }
 
-// Whether the line sets something up.
-fn sets_up(line: &ScriptLine) -> bool
+/// Whether the line sets something up.
+pub(crate) fn sets_up(line: &ScriptLine) -> bool
     ensures { result ≡ setting_up (shown line.now) }
 {
     match line {
@@ -101,9 +104,9 @@ impl ScriptRun {
         }
     }
 
-    /// Takes a further line: what it sends, if it is a line that sends. `Breaks` comes exactly where the line may not follow
-    /// those before it, and then nothing has changed. After `Memory` the run stands for no lines, and isn't to be used.
-    pub(crate) fn take(&mut self, alloc: Global, line: ScriptLine) -> Result<Option<Sent>, Unfit>
+    /// Takes a further line, and answers what it made the device do. `Breaks` comes exactly where the line may not follow those
+    /// before it, and then nothing has changed. After `Memory` the run stands for no lines, and isn't to be used.
+    pub(crate) fn take(&mut self, alloc: Global, line: ScriptLine) -> Result<Step, Unfit>
         requires sound { IsSound self.old }
         ensures takes { (lines : List Line) → may_be_written (shown line) ≡ true → StandsFor self.old lines
             → TakesLine self.new lines (shown line) result }
@@ -113,21 +116,21 @@ impl ScriptRun {
             return Err(Unfit::Breaks);
         }
         match self.take_lawful(alloc, line) {
-            Ok(sent) => Ok(sent),
+            Ok(step) => Ok(step),
             Err(_) => Err(Unfit::Memory),
         }
     }
 
     // Takes a line that may follow.
-    fn take_lawful(&mut self, alloc: Global, line: ScriptLine) -> Result<Option<Sent>, AllocError>
+    fn take_lawful(&mut self, alloc: Global, line: ScriptLine) -> Result<Step, AllocError>
         requires sound { (lines : List Line) × StandsFor self.old lines × (length lines < 4294967296)
             × (follows lines (shown line) ≡ true) }
-        ensures { IfOk result (λ sent. (lines : List Line) → AreLawful (shown line ∷ lines) → StandsFor self.old lines
-            → StandsFor self.new (shown line ∷ lines) × (entries_of sent ≡ sent_by lines (shown line))) }
+        ensures { IfOk result (λ step. (lines : List Line) → AreLawful (shown line ∷ lines) → StandsFor self.old lines
+            → StandsFor self.new (shown line ∷ lines) × Makes lines (shown line) step) }
     {
         if sets_up(&line) {
             self.set_up(alloc, line)?;
-            return Ok(None);
+            return Ok(Step::SetUp);
         }
         self.start(alloc)?;
         self.go_on(alloc, line)
@@ -250,12 +253,13 @@ impl ScriptRun {
         }
     }
 
-    // Takes a line that sets nothing up.
-    fn go_on(&mut self, alloc: Global, line: ScriptLine) -> Result<Option<Sent>, AllocError>
+    // Takes a line that sets nothing up. One that may follow finds its sub-agent and its source in the open device, so the
+    // answer is never `SetUp`.
+    fn go_on(&mut self, alloc: Global, line: ScriptLine) -> Result<Step, AllocError>
         requires { IsRunning self.old }
-        ensures { IfOk result (λ sent. (lines : List Line) → setting_up (shown line) ≡ false → AreLawful (shown line ∷ lines)
+        ensures { IfOk result (λ step. (lines : List Line) → setting_up (shown line) ≡ false → AreLawful (shown line ∷ lines)
             → IsStarted self.old lines
-            → StandsFor self.new (shown line ∷ lines) × (entries_of sent ≡ sent_by lines (shown line))) }
+            → StandsFor self.new (shown line ∷ lines) × Makes lines (shown line) step) }
     {
         match line {
             ScriptLine::Packet {
@@ -265,86 +269,79 @@ impl ScriptRun {
                 vlan,
                 length,
                 header,
-            } => {
-                self.observe(
-                    source,
-                    &Packet {
-                        input: Port {
-                            form: 0,
-                            value: input,
-                        },
-                        output: Port {
-                            form: 0,
-                            value: output,
-                        },
-                        frame_length: length,
-                        vlan,
-                        header: &header,
+            } => Ok(self.observe(
+                source,
+                &Packet {
+                    input: Port {
+                        form: 0,
+                        value: input,
                     },
-                );
-                Ok(None)
-            }
-            ScriptLine::Poll { id, uptime } => {
-                self.poll(id, uptime);
-                Ok(None)
-            }
+                    output: Port {
+                        form: 0,
+                        value: output,
+                    },
+                    frame_length: length,
+                    vlan,
+                    header: &header,
+                },
+            )),
+            ScriptLine::Poll { id, uptime } => Ok(self.poll(id, uptime)),
             ScriptLine::Send { id, uptime } => self.send(alloc, id, uptime),
-            ScriptLine::Restart { id, at } => {
-                self.restart(id, at)?;
-                Ok(None)
-            }
-            ScriptLine::Reset { flow, source } => {
-                self.reset(flow, source);
-                Ok(None)
-            }
-            ScriptLine::Deliver { .. } => {
-                self.tables.go_on();
-                Ok(None)
-            }
-            _ => Ok(None),
+            ScriptLine::Restart { id, at } => self.restart(id, at),
+            ScriptLine::Reset { flow, source } => Ok(self.reset(flow, source)),
+            ScriptLine::Deliver {
+                id,
+                boot,
+                number,
+                at,
+            } => Ok(self.deliver(id, boot, number, at)),
+            _ => Ok(Step::SetUp),
         }
     }
 
-    fn observe(&mut self, source: SourceId, packet: &Packet<'_>)
+    fn observe(&mut self, source: SourceId, packet: &Packet<'_>) -> Step
         ensures { (lines : List Line) → AreLawful (PacketLine (place_of (source_said true source)) (packet_of packet.now) ∷ lines)
             → IsStarted self.old lines
-            → StandsFor self.new (PacketLine (place_of (source_said true source)) (packet_of packet.now) ∷ lines) }
+            → StandsFor self.new (PacketLine (place_of (source_said true source)) (packet_of packet.now) ∷ lines)
+            × Makes lines (PacketLine (place_of (source_said true source)) (packet_of packet.now)) result }
     {
         let Some(device) = &mut self.device else {
-            return;
+            return Step::SetUp;
         };
-        device_lines::observe(device, source, packet);
+        let step = device_lines::observe(device, source, packet);
         self.meter.count(source, packet.frame_length);
         self.tables.go_on();
+        step
     }
 
-    fn poll(&mut self, id: u32, uptime: u32)
+    fn poll(&mut self, id: u32, uptime: u32) -> Step
         requires { IsRunning self.old }
         ensures { (lines : List Line) → AreLawful (PollLine id uptime ∷ lines) → IsStarted self.old lines
-            → StandsFor self.new (PollLine id uptime ∷ lines) }
+            → StandsFor self.new (PollLine id uptime ∷ lines) × Makes lines (PollLine id uptime) result }
     {
         let Some(sub) = self.tables.find_sub(id) else {
-            return;
+            return Step::SetUp;
         };
         let Some(device) = &mut self.device else {
-            return;
+            return Step::SetUp;
         };
-        device_lines::poll(device, &mut self.meter, sub.place, uptime);
+        let step = device_lines::poll(device, &mut self.meter, sub.place, uptime);
         self.tables.go_on();
+        step
     }
 
     // The outlet fails only for want of memory.
-    fn send(&mut self, alloc: Global, id: u32, uptime: u32) -> Result<Option<Sent>, AllocError>
+    fn send(&mut self, alloc: Global, id: u32, uptime: u32) -> Result<Step, AllocError>
         requires { IsRunning self.old }
-        ensures { IfOk result (λ sent. (lines : List Line) → AreLawful (SendLine id uptime ∷ lines) → IsStarted self.old lines
-            → StandsFor self.new (SendLine id uptime ∷ lines) × (entries_of sent ≡ sent_by lines (SendLine id uptime))) }
+        ensures { IfOk result (λ step. (lines : List Line) → AreLawful (SendLine id uptime ∷ lines) → IsStarted self.old lines
+            → StandsFor self.new (SendLine id uptime ∷ lines) × Makes lines (SendLine id uptime) step) }
     {
         let Some(sub) = self.tables.find_sub(id) else {
-            return Ok(None);
+            return Ok(Step::SetUp);
         };
         let mut datagrams = ListOutlet::new(alloc, Vec::new(alloc));
         let Some(device) = &mut self.device else {
-            return Ok(None);
+            return Ok(Step::SetUp);
         };
         if device_lines::send(device, sub.place, uptime, &mut datagrams).is_err() {
             return Err(AllocError);
@@ -352,33 +349,66 @@ impl ScriptRun {
         let count = device_lines::sent_so_far(device, sub.place);
         self.tables.send(id, count);
         let at = sub.at + uptime as u64;
-        Ok(Some(Sent { at, datagrams }))
+        Ok(Step::Sent {
+            place: sub.place,
+            uptime,
+            sent: Sent { at, datagrams },
+        })
     }
 
-    fn restart(&mut self, id: u32, at: u64) -> Result<(), AllocError>
+    fn restart(&mut self, id: u32, at: u64) -> Result<Step, AllocError>
         requires { IsRunning self.old }
-        ensures { OnOk result ((lines : List Line) → AreLawful (RestartLine id at ∷ lines) → IsStarted self.old lines
-            → StandsFor self.new (RestartLine id at ∷ lines)) }
+        ensures { IfOk result (λ step. (lines : List Line) → AreLawful (RestartLine id at ∷ lines) → IsStarted self.old lines
+            → StandsFor self.new (RestartLine id at ∷ lines) × Makes lines (RestartLine id at) step) }
     {
         let Some(sub) = self.tables.find_sub(id) else {
-            return Ok(());
+            return Ok(Step::SetUp);
         };
         let Some(device) = &mut self.device else {
-            return Ok(());
+            return Ok(Step::SetUp);
         };
-        device_lines::restart(device, sub.place);
+        let step = device_lines::restart(device, sub.place);
         self.meter.restart(id);
-        self.tables.restart(id, at)
+        self.tables.restart(id, at)?;
+        Ok(step)
     }
 
-    fn reset(&mut self, flow: bool, source: SourceId)
+    fn reset(&mut self, flow: bool, source: SourceId) -> Step
         ensures { (lines : List Line) → AreLawful (ResetLine (source_said flow source) ∷ lines) → IsStarted self.old lines
-            → StandsFor self.new (ResetLine (source_said flow source) ∷ lines) }
+            → StandsFor self.new (ResetLine (source_said flow source) ∷ lines)
+            × Makes lines (ResetLine (source_said flow source)) result }
     {
         let Some(device) = &mut self.device else {
-            return;
+            return Step::SetUp;
         };
-        device_lines::reset(device, flow, source);
+        let step = device_lines::reset(device, flow, source);
         self.tables.go_on();
+        step
+    }
+
+    fn deliver(&mut self, id: u32, boot: u64, number: u64, at: u64) -> Step
+        ensures { (lines : List Line)
+            → AreLawful (DeliverLine (record { id = id; boot = boot; number = number; at = at }) ∷ lines)
+            → IsStarted self.old lines
+            → StandsFor self.new (DeliverLine (record { id = id; boot = boot; number = number; at = at }) ∷ lines)
+            × Makes lines (DeliverLine (record { id = id; boot = boot; number = number; at = at })) result }
+    {
+        let Some(sub) = self.tables.find_sub(id) else {
+            return Step::SetUp;
+        };
+        self.tables.go_on();
+        Step::Delivered {
+            place: sub.place,
+            boot,
+            number,
+            at,
+        }
+    }
+
+    /// The set-ups, as long as every line sets something up.
+    pub(crate) fn setups(&self) -> &[Setup]
+        ensures { (lines : List Line) → StandsFor self.now lines → list_all setting_up lines ≡ true → AreSetUp lines result.now }
+    {
+        self.setups.setups()
     }
 }

@@ -18,6 +18,10 @@ ghost use Rattle.sflow_tool.specs.Passing.{first_in_time};
 ghost use Rattle.sflow_tool.specs.Surroundings.{surroundings};
 ghost use Rattle.sflow_tool.specs.Performances.{EndsBy, IsFed, Performs};
 ghost use Rattle.sflow_tool.specs.Relays.{Relayed, RelaysOver, relays};
+ghost use Rattle.sflow_tool.specs.Trials.{all_hold, premises_of, tail_of};
+ghost use Rattle.script_spec.specs.Lines.{Line};
+ghost use Rattle.script_laws.specs.SoFar.{IsScriptOf};
+ghost use Rattle.script_histories.specs.Histories.{deliveries_of, history_of};
 ghost use Rattle.sample_taps.specs.Feeding.{Held};
 ghost use Rattle.delivered_items.specs.AccountHeaders.{account_briefs, account_classes};
 ghost use Rattle.command_words.specs.declared.command.Command.{Command};
@@ -32,14 +36,19 @@ use crate::relay::relay;
 use crate::replay::replay;
 use crate::send::send;
 use crate::show::show;
+use crate::trial::trial;
 use command_runs::Status;
 use command_words::{Command as Asked, WordsRefusal, read_words};
 use datagram_links::{Link, Receiver};
+use delivered_items::laws::scripts_are_accepted;
 use flow_collector::Seeds;
 use relay_out::Receivers;
 use sample_taps::{Tap, Taps};
+use script_histories::laws::scripts_are_histories;
+use script_laws::{scripts_are_lawful, scripts_are_read};
 use sflow_io::{Sink, Source};
 use std::alloc::Global;
+use trial_spec::laws::four_tests_are_the_premises;
 
 /// Does what the words say, from the source to the sink or over the link. The words are without the program's name.
 ///
@@ -72,6 +81,10 @@ use std::alloc::Global;
 /// its lines, each with the arrival of its boot and its uptime. A line that breaks a rule ends the run with `BadInput` at
 /// the number of that line. Where reading ends early, the capture has what the lines before send, and nothing is written
 /// where they send nothing. Memory may be lacking at any line.
+/// `trial` reads a script and runs it, but what its `deliver` lines deliver goes to a collector and the consumers as soon as
+/// each is read. At the end it writes the report, as `replay` does of these datagrams, a line of how many datagrams the
+/// sub-agents sent, samples they issued and packets they dropped, and a line of which premises hold. A line that breaks a rule
+/// ends it as it ends `agent`, and then nothing is written; memory may be lacking at any line.
 /// Every other command takes all memory before the first byte is read or written, and before the link or a receiver is used.
 pub fn run<S: Source, K: Sink, L: Link>(
     alloc: Global,
@@ -183,6 +196,24 @@ pub fn run<S: Source, K: Sink, L: Link>(
         (λ x. (⟦<dyn Tap as Tap>⟧ x.vtable).ended x.value) (account_briefs asked.limits deliveries)
         taps.old.held.items taps.new.held.items }
 
+    // Where the premises hold of what a script delivers, and so the last line says, the report in front is that of the account.
+    ensures trial_account { (limits : Limits) (interfaces : Bool) (lines : List Line) (input : List ℕ)
+        → command_for (vec_len receivers.old.held) (map string_bytes words.now) ≡ Some (Command.Trial limits interfaces)
+        → AreBytes input → (S.seen source.old).told ≡ Some input → IsScriptOf lines input → premises_of limits lines ≡ all_hold
+        → result ≡ Status.Done
+        → Takes (K.seen sink.old) (K.seen sink.new) (report_with interfaces
+        (account limits (history_of lines) (deliveries_of lines)) (account_classes limits (deliveries_of lines))
+        (shown_taps (λ x. (⟦<dyn Tap as Tap>⟧ x.vtable).text x.value) taps.new.held.items taps.new.ended)
+        ++ tail_of limits lines) }
+
+    ensures trial_briefs { (limits : Limits) (interfaces : Bool) (lines : List Line) (input : List ℕ)
+        → command_for (vec_len receivers.old.held) (map string_bytes words.now) ≡ Some (Command.Trial limits interfaces)
+        → (S.seen source.old).told ≡ Some input → IsScriptOf lines input → premises_of limits lines ≡ all_hold
+        → result ≡ Status.Done
+        → Held (λ x b y. (v : _) × (y ≡ record x { value = v }) × (⟦<dyn Tap as Tap>⟧ x.vtable).step x.value b v)
+        (λ x. (⟦<dyn Tap as Tap>⟧ x.vtable).ended x.value) (account_briefs limits (deliveries_of lines))
+        taps.old.held.items taps.new.held.items }
+
     // What goes on then is each datagram that was delivered in time, once, and no other.
     ensures relay_delivered { (asked : Collection) (routes : List Route) (history : List SubAgent) (deliveries : List Delivery)
         (told : LinkTold)
@@ -215,6 +246,11 @@ pub fn run<S: Source, K: Sink, L: Link>(
         → ¬ Rose (L.seen link.old).faults (L.seen link.new).faults
         → (result ≡ Status.Done) ⊎ (result ≡ Status.Memory) }
 {
+    scripts_are_lawful();
+    scripts_are_read();
+    scripts_are_histories();
+    scripts_are_accepted();
+    four_tests_are_the_premises();
     match read_words(alloc, words, receivers.len()) {
         Ok(command) => perform(alloc, command, seeds, source, sink, link, taps, receivers),
         Err(WordsRefusal::Usage) => Status::Usage,
@@ -275,5 +311,8 @@ fn perform<S: Source, K: Sink, L: Link>(
             alloc, &asked, &routes, seeds, sink, link, taps, receivers,
         ),
         Asked::Agent => agent(alloc, source, sink),
+        Asked::Trial { limits, interfaces } => {
+            trial(alloc, limits, interfaces, seeds, source, sink, taps)
+        }
     }
 }

@@ -24,9 +24,10 @@ impl Device {
         ensures refused { refusal_in result ≡ device_refusal source packet.now self.old.subs }
         ensures unchanged { OnErr result (self.new ≡ self.old) }
 
-        // One sub-agent, which has the source, stands for one event more, and the answer is what comes of the packet.
+        // The sub-agent that has the source stands for one event more, and the answer is what comes of the packet.
         ensures stands { (boots : List BootSoFar) → StandForEach self.old.subs boots → IfOk result (λ seen.
-            (place : ℕ) × (b : BootSoFar) × (f : FlowSetup) × (slice_get boots place ≡ Some b) × IsAmong f b.setup.flows
+            (place : ℕ) × (home_of true source self.old.subs ≡ Some place)
+            × (b : BootSoFar) × (f : FlowSetup) × (slice_get boots place ≡ Some b) × IsAmong f b.setup.flows
             × (f.source ≡ flow_source source) × (seen ≡ seen_by f b)
             × StandForEach self.new.subs (set boots place (with_event (Observe f (packet_of packet.now)) b))) }
     {
@@ -78,9 +79,10 @@ impl Device {
         ensures refused { IsErr result ↔ (has_kind flow source self.old.subs ≡ false) }
         ensures unchanged { OnErr result (self.new ≡ self.old) }
 
-        // One sub-agent, which has the source, stands for the reset.
+        // The sub-agent that has the source stands for the reset.
         ensures stands { (boots : List BootSoFar) → StandForEach self.old.subs boots → OnOk result (
-            (place : ℕ) × (b : BootSoFar) × (slice_get boots place ≡ Some b)
+            (place : ℕ) × (home_of flow source self.old.subs ≡ Some place)
+            × (b : BootSoFar) × (slice_get boots place ≡ Some b)
             × StandForEach self.new.subs (set boots place (with_event (Reset (source_of_kind flow source)) b))) }
     {
         let Some(place) = self.home(flow, source) else {
@@ -124,8 +126,8 @@ impl Device {
         self.subs[sub].numbered()
     }
 
-    // The place of the sub-agent that has a source of this kind.
-    fn home(&self, flow: bool, source: SourceId) -> Option<usize>
+    /// The place of the sub-agent that has a source of flow samples, or where `flow` is false a source of counters samples.
+    pub fn home(&self, flow: bool, source: SourceId) -> Option<usize>
         ensures { result ≡ home_of flow source self.now.subs }
     {
         for (place, sub_agent) in self.subs.iter().enumerate() {

@@ -7,3 +7,4 @@ pub mod Sends
 pub mod Moves
 pub mod Opening
 pub mod Words
+pub mod Bounds

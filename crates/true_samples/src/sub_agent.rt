@@ -1,10 +1,12 @@
-ghost use Rattle.std.specs.Prelude.{◌≡◌, ◌<◌, ◌^◌, ◌++◌, List, [], ◌∷◌, length, Some, None, IfSome, IfNone};
+ghost use Rattle.std.specs.Prelude.{◌≡◌, ◌+◌, ◌<◌, ◌^◌, ◌++◌, List, [], ◌∷◌, length, Some, None, IfSome, IfNone};
 ghost use Rattle.std.specs.List.{sum_by};
 ghost use Rattle.agent_spec.specs.Samples.{Setup};
 ghost use Rattle.agent_spec.specs.Events.{Event};
 ghost use Rattle.agent_spec.specs.Boots.{happened};
 ghost use Rattle.agent_spec.specs.Spelled.{Sender};
 ghost use Rattle.script_spec.specs.Agents.{numbered};
+ghost use Rattle.account_spec.specs.Histories.{counter_sources, flow_sources};
+ghost use Rattle.true_samples.specs.Bounds.{AreFew};
 ghost use Rattle.true_samples.specs.Standing.{StandsFor, AreSame, sent_at};
 
 use crate::boots::TrueBoot;
@@ -89,6 +91,14 @@ impl TrueSubAgent {
         self.earlier.get(place)
     }
 
+    /// How many sources it has: those that it samples and those that it polls.
+    pub fn source_count(&self) -> usize
+        ensures { (sender : Sender) (s : Setup) (events : List Event) (earlier : List (List Event))
+            → StandsFor sender s self.now events earlier → result ≡ length (flow_sources s ++ counter_sources s) }
+    {
+        self.flow_ids.len() + self.counter_ids.len()
+    }
+
     /// What it did in all its boots.
     pub fn totals(&self) -> Totals
         ensures datagrams { (sender : Sender) (s : Setup) (events : List Event) (earlier : List (List Event))
@@ -100,6 +110,7 @@ impl TrueSubAgent {
         ensures dropped { (sender : Sender) (s : Setup) (events : List Event) (earlier : List (List Event))
             → StandsFor sender s self.now events earlier
             → result.dropped ≡ sum_by (λ (boot : List Event). length (happened s boot).dropped) (events ∷ earlier) }
+        ensures most { AreFew (1 + length self.now.earlier) result }
     {
         let mut totals = totals_of(&self.current);
         for boot in self.earlier.iter() {

@@ -1,40 +1,33 @@
 use Rattle.script_lines.specs.Shown.{shown}
-use Rattle.std.proofs.Common.{Some}
 use Rattle.text_lines.proofs.PageLaws.{puts_none}
-use Rattle.sflow_tool.proofs.AgentLines.{line_quiet, line_took, line_unwritten, said_may, sent_short}
+use Rattle.sflow_tool.proofs.AgentLines.{line_took, line_unwritten, said_may, sent_short}
 use Rattle.sflow_tool.proofs.agent.take_line.Goals as goal
 
-pub put_sent-requires : goal.put_sent-requires
-put_sent-requires g c = record {
+pub put_step-requires : goal.put_step-requires
+put_step-requires g c = record {
   short =
       let may = said_may (shown c.args.line) c.requires.said c.lines_are_written.ensures in
-      sent_short c.args.run.now c.take.new.self c.requires.sound.0 (shown c.args.line) c.in-Ok-Some.sent c.requires.sound.1
-      (rw c.in-Ok-Some.field-0-is at (c.in-Ok-Some.ensures.takes c.requires.sound.0 may c.requires.sound.1));
+      sent_short c.args.run.now c.take.new.self c.requires.sound.0 (shown c.args.line) c.in-Ok.step c.requires.sound.1
+      (c.in-Ok.ensures.takes c.requires.sound.0 may c.requires.sound.1);
 }
+
+pub returns-in-Ok-put_step : goal.returns-in-Ok-put_step
+returns-in-Ok-put_step g c = λ lines stands.
+    let may = said_may (shown c.args.line) c.requires.said c.lines_are_written.ensures in
+    line_took c.take.new.self lines (shown c.args.line) c.in-Ok.step c.args.opened c.in-Ok-put_step.now _
+    (c.in-Ok.ensures.takes lines may stands) c.in-Ok-put_step.ensures.opened c.in-Ok-put_step.ensures.prints
 
 pub returns-in-Ok : goal.returns-in-Ok
 returns-in-Ok g c = λ lines stands.
     let may = said_may (shown c.args.line) c.requires.said c.lines_are_written.ensures in
-    line_took c.take.new.self lines (shown c.args.line) (Some c.in-Ok-Some.sent) c.args.opened c.in-Ok.now _
-    (rw c.in-Ok-Some.field-0-is at (c.in-Ok-Some.ensures.takes lines may stands)) c.in-Ok.ensures.opened c.in-Ok.ensures.prints
-
-pub returns-in-Ok-Some : goal.returns-in-Ok-Some
-returns-in-Ok-Some g c = λ lines stands.
-    let may = said_may (shown c.args.line) c.requires.said c.lines_are_written.ensures in
-    line_unwritten c.take.new.self lines (shown c.args.line) (Some c.in-Ok-Some.sent) c.args.opened
+    line_unwritten c.take.new.self lines (shown c.args.line) c.in-Ok.step c.args.opened
     (record {
       sink = g.K.Sink.seen c.args.sink.now;
-      sink' = g.K.Sink.seen c.put_sent.new.sink;
+      sink' = g.K.Sink.seen c.put_step.new.sink;
       page = c.args.page.now;
-      page' = c.put_sent.new.page;
+      page' = c.put_step.new.page;
     })
-    (rw c.in-Ok-Some.field-0-is at (c.in-Ok-Some.ensures.takes lines may stands)) c.in-Err.ensures.prints
-
-pub returns-in-Ok-None : goal.returns-in-Ok-None
-returns-in-Ok-None g c = λ lines stands.
-    let may = said_may (shown c.args.line) c.requires.said c.lines_are_written.ensures in
-    line_quiet c.take.new.self lines (shown c.args.line) c.args.opened _ _
-    (rw c.in-Ok-None.field-0-is at (c.in-Ok-None.ensures.takes lines may stands))
+    (c.in-Ok.ensures.takes lines may stands) c.in-Err.ensures.prints
 
 pub returns-in-Err-Breaks : goal.returns-in-Err-Breaks
 returns-in-Err-Breaks g c = λ lines stands.

@@ -1,8 +1,18 @@
+use Rattle.std.proofs.Common.{◌∙◌, refl, rules, sym}
 use Rattle.sflow_tool.specs.ScriptBoots.{boots_now}
-use Rattle.sflow_tool.proofs.DeviceLines.{reset_done}
+use Rattle.sflow_tool.proofs.DeviceLines.{reset_done, reset_none, reset_refused}
 use Rattle.sflow_tool.proofs.device_lines.reset.Goals as goal
 
-pub returns : goal.returns
-returns c = λ lines lawful h.
-    reset_done c.args.device.now c.reset.new.self c.args.flow c.args.source c.reset.result lines lawful h c.reset.ensures.refused.0
-    (c.reset.ensures.stands (boots_now lines) h)
+pub returns-in_default : goal.returns-in_default
+returns-in_default c = λ lines lawful h.
+    reset_none c.args.device.now c.args.flow c.args.source lines lawful h (sym c.home.ensures ∙ c.in_default.is)
+
+pub returns-in-Ok : goal.returns-in-Ok
+returns-in-Ok c = λ lines lawful h.
+    let x = reset_done c.args.device.now c.reset.new.self c.args.flow c.args.source c.in-Some.place lines lawful
+    (sym c.home.ensures ∙ c.in-Some.is) (c.in-Ok.ensures.stands (boots_now lines) h) in
+    (x.0, (x.1, refl))
+
+pub returns-in-Err : goal.returns-in-Err
+returns-in-Err c = λ lines lawful h.
+    reset_refused c.args.device.now c.args.flow c.args.source lines lawful h (c.in-Err.ensures.refused.0 (search rules))

@@ -3,8 +3,8 @@ use Rattle.std.specs.Prelude.{vec_len}
 use Rattle.command_words.specs.Commands.{receivers_needed}
 use Rattle.command_words.specs.declared.command.Command.{Command}
 use Rattle.sflow_tool.specs.Relays.{relays}
-use Rattle.command_words.specs.declared.command.Command.TheVariants.{Replay, Show, Check, Canon, Pcap, Collect, Send, Relay, Agent}
-use Rattle.sflow_tool.proofs.Performed.{between, collecting, fed_as, fed_come, fed_read, fed_relay, of_this, sends_as, unfed_canon, unfed_check, unfed_pcap, unfed_send, unfed_show, unfed_agent}
+use Rattle.command_words.specs.declared.command.Command.TheVariants.{Replay, Show, Check, Canon, Pcap, Collect, Send, Relay, Agent, Trial}
+use Rattle.sflow_tool.proofs.Performed.{between, collecting, fed_as, fed_come, fed_read, fed_relay, fed_tried, of_this, sends_as, unfed_canon, unfed_check, unfed_pcap, unfed_send, unfed_show, unfed_agent}
 use Rattle.sflow_tool.proofs.Relaying.{lines_as, not_relay, relayed_as, turns_as}
 use Rattle.sflow_tool.proofs.top.perform.Goals as goal
 
@@ -165,3 +165,22 @@ returns-in-Relay-clause-turns g c = λ asked routes is.
 
 pub returns-in-Agent-clause-turns : goal.returns-in-Agent-clause-turns
 returns-in-Agent-clause-turns g c = λ asked routes is. absurd (not_relay c.args.command asked routes is (ap relays c.in-Agent.is))
+
+pub returns-in-Trial-clause-runs : goal.returns-in-Trial-clause-runs
+returns-in-Trial-clause-runs g c =
+    of_this (Trial c.in-Trial.limits c.in-Trial.interfaces) c.args.command _ _ _ c.in-Trial.is
+    (collecting _ _ _ _ _ _ _ _ _ _ c.trial.ensures.runs)
+
+pub returns-in-Trial-clause-fed : goal.returns-in-Trial-clause-fed
+returns-in-Trial-clause-fed g c =
+    fed_as _ _ _ _ _ _ _ (Trial c.in-Trial.limits c.in-Trial.interfaces) c.args.command c.in-Trial.is
+    (fed_tried _ _ _ _ _ _ _ c.in-Trial.limits c.in-Trial.interfaces c.trial.ensures.fed)
+
+pub returns-in-Trial-clause-relay_lines : goal.returns-in-Trial-clause-relay_lines
+returns-in-Trial-clause-relay_lines g c = λ asked routes is. absurd (not_relay c.args.command asked routes is (ap relays c.in-Trial.is))
+
+pub returns-in-Trial-clause-relayed : goal.returns-in-Trial-clause-relayed
+returns-in-Trial-clause-relayed g c = λ asked routes is. absurd (not_relay c.args.command asked routes is (ap relays c.in-Trial.is))
+
+pub returns-in-Trial-clause-turns : goal.returns-in-Trial-clause-turns
+returns-in-Trial-clause-turns g c = λ asked routes is. absurd (not_relay c.args.command asked routes is (ap relays c.in-Trial.is))

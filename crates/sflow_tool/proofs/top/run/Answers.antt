@@ -2,10 +2,11 @@ use Rattle.std.proofs.Common.{◌≡◌, ◌≤◌, ℕ, List, map, string_bytes
 use Rattle.command_words.specs.Commands.{command_for, receivers_needed}
 use Rattle.command_words.specs.Rules.{Text}
 use Rattle.command_words.specs.declared.command.Command.{Command}
-use Rattle.command_words.specs.declared.command.Command.TheVariants.{Collect, Relay, Replay}
+use Rattle.command_words.specs.declared.command.Command.TheVariants.{Collect, Relay, Replay, Trial}
 use Rattle.sflow_tool.proofs.Collected.{collected_briefs, collected_of, relay_collected, turned_of}
 use Rattle.sflow_tool.proofs.LinkRuns.{collect_lacks, turns_done}
 use Rattle.sflow_tool.proofs.PassedInTime.{relayed_in_time}
+use Rattle.sflow_tool.proofs.TriedAccount.{account_fed, account_written, script_lawful}
 use Rattle.sflow_tool.specs.Relays as relays
 use Rattle.sflow_tool.proofs.DeliveredClasses.{delivered_briefs, delivered_headline}
 use Rattle.sflow_tool.specs.Performances.{EndsBy, Performs}
@@ -132,3 +133,26 @@ returns-in-Ok-clause-relay_delivered g c = λ asked routes history deliveries to
     let same : c.in-Ok.command ≡ Relay asked routes = same_command c.in-Ok.command (Relay asked routes) (sym (counted _ _ (map string_bytes c.args.words.now) c.in-Ok.command c.len.ensures c.in-Ok.ensures.command) ∙ words) in
     relayed_in_time _ asked routes history deliveries told _ _ _ _ _ _ _ (c.perform.ensures.relayed asked routes same) done
     (c.perform.ensures.turns asked routes same) tells d
+
+pub returns-in-Ok-clause-trial_account : goal.returns-in-Ok-clause-trial_account
+returns-in-Ok-clause-trial_account g c = λ limits interfaces lines input words are told script hold done.
+    let lawful = script_lawful c.scripts_are_lawful.ensures lines input script in
+    account_written limits lines (c.scripts_are_histories.ensures.history lines lawful)
+    (c.scripts_are_histories.ensures.entries lines lawful) (c.scripts_are_accepted.ensures lines lawful)
+    (c.four_tests_are_the_premises.ensures limits _ _ (c.scripts_are_histories.ensures.history lines lawful)
+    (c.scripts_are_histories.ensures.sent lines lawful)) hold input
+    (λ a is. c.scripts_are_read.ensures.script a input is) script c.in-Ok.command interfaces _ _ _ c.perform.ensures.runs
+    (same_command (Trial limits interfaces) c.in-Ok.command (sym words ∙ (counted _ _ (map string_bytes c.args.words.now) c.in-Ok.command c.len.ensures c.in-Ok.ensures.command)))
+    done are told
+
+pub returns-in-Ok-clause-trial_briefs : goal.returns-in-Ok-clause-trial_briefs
+returns-in-Ok-clause-trial_briefs g c = λ limits interfaces lines input words told script hold done.
+    let lawful = script_lawful c.scripts_are_lawful.ensures lines input script in
+    let same : Trial limits interfaces ≡ c.in-Ok.command =
+    same_command (Trial limits interfaces) c.in-Ok.command (sym words ∙ (counted _ _ (map string_bytes c.args.words.now) c.in-Ok.command c.len.ensures c.in-Ok.ensures.command)) in
+    let fed = fed_as _ _ _ _ _ _ _ c.in-Ok.command (Trial limits interfaces) same c.perform.ensures.fed in
+    account_fed limits lines (c.scripts_are_histories.ensures.history lines lawful)
+    (c.scripts_are_histories.ensures.entries lines lawful) (c.scripts_are_accepted.ensures lines lawful)
+    (c.four_tests_are_the_premises.ensures limits _ _ (c.scripts_are_histories.ensures.history lines lawful)
+    (c.scripts_are_histories.ensures.sent lines lawful)) hold input
+    (λ a is. c.scripts_are_read.ensures.script a input is) script _ _ _ _ _ fed.briefs _ _ fed.feeds fed.held done told

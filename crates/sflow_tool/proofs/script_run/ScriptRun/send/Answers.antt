@@ -44,5 +44,5 @@ returns c = λ lines lawful h.
       running c.args.self.now.setups _ line lines c.send-2.new.self c.args.self.now.meter c.send.new.device refl lawful refl
           (c.send-2.ensures lines c.args.uptime lawful (c.sent_so_far-count.ensures lines c.args.id c.args.uptime c.in-Some.sub.at lawful sent.0 stands) h.tables)
           (send_counts c.args.self.now.meter lines h.counts c.args.id c.args.uptime) sent.0,
-      sent.1,
+      (sent.1 _, sent.2),
     )

@@ -1,0 +1,10 @@
+pub mod Lists
+pub mod LineKinds
+pub mod Stays
+pub mod SetUps
+pub mod Histories
+pub mod Reaching
+pub mod Deliveries
+pub mod MoreLines
+pub mod SetUpsStay
+pub mod Places
