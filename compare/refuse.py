@@ -32,6 +32,7 @@ COMMANDS = (
     (("collect", "--turns", "1", "--listen", f"127.0.0.1:{LISTEN}"), "first.sflc"),
     (("relay", "--turns", "1", "--routes", f"any=127.0.0.1:{TO}", "--listen", f"127.0.0.1:{LISTEN}"), "first.sflc"),
     (("agent",), "ten_packets.script"),
+    (("trial", "--interfaces"), "delivered.script"),
 )
 
 

@@ -110,7 +110,5 @@ for seed in $(seq "$seeds"); do
     head -c $((40 * script)) "$folder/script-$script" > "$folder/cut-script"
     trial "$folder/cut-script"
   done
-  trial /dev/null --made "$seed" --packets 100000
-  trial /dev/null --made "$seed" --packets "$seed" --interfaces
 done
 exit $status

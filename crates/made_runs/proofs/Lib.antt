@@ -1,0 +1,5 @@
+mod ManyDraws
+mod Going
+mod Skips
+mod Kept
+mod Accepted
