@@ -1,15 +1,14 @@
 -- Where the premises hold of what a script delivers, the report of a trial is that of the account. Every list of lines and
 -- deliveries has the LATEST FIRST.
-use Rattle.std.proofs.Common.{◌≡◌, ◌∙◌, ◌==◌, ◌&&◌, ◌++◌, ℕ, Bool, true, List, [], map, reverse, Some, Ok, refl, sym, ap, subst}
+use Rattle.std.proofs.Common.{◌≡◌, ◌∙◌, ◌++◌, ℕ, Bool, true, List, [], map, reverse, Some, Ok, sym, ap, subst}
 use Rattle.std.proofs.lemmas.List.{reverse-reverse}
-use Rattle.wire_spec.specs.Captures.{Entry}
 use Rattle.wire_spec.specs.Bytes.{AreBytes}
 use Rattle.byte_ends.specs.Seen.{Seen, Takes}
 use Rattle.books_spec.specs.Books.{totals}
-use Rattle.books_spec.specs.Items.{Item}
+use Rattle.books_spec.specs.declared.totals.Totals.{Totals}
 use Rattle.books_spec.specs.declared.limits.Limits.{Limits}
-use Rattle.account_spec.specs.Histories.{IsHistory, SubAgent}
-use Rattle.account_spec.specs.Deliveries.{AreSent, Delivers, Delivery, item}
+use Rattle.account_spec.specs.Histories.{IsHistory}
+use Rattle.account_spec.specs.Deliveries.{Delivers, item}
 use Rattle.account_spec.specs.Premises.{Premises}
 use Rattle.delivered_items.specs.Accepted.{AreAccepted}
 use Rattle.delivered_items.specs.AccountHeaders.{account_briefs}
@@ -29,11 +28,10 @@ use Rattle.command_words.specs.declared.command.Command.{Command}
 use Rattle.command_words.specs.declared.command.Command.TheVariants.{Trial}
 use Rattle.command_runs.specs.declared.status.Status.{Status}
 use Rattle.command_runs.specs.declared.status.Status.TheVariants.{Done}
-use Rattle.sflow_tool.specs.Headlines.{IsCollected}
 use Rattle.sflow_tool.specs.Performances.{Performs}
 use Rattle.sflow_tool.specs.Replays.{briefs_in, items_in}
 use Rattle.sflow_tool.specs.Surroundings.{Surroundings}
-use Rattle.sflow_tool.specs.Trials.{HasTriedLines, WereTried, all_hold, lists_all, premises_of, received_in, tail_of, trial_text}
+use Rattle.sflow_tool.specs.Trials.{HasTriedLines, WereTried, all_hold, premises_of, received_in, tail_of, trial_text}
 use Rattle.sflow_tool.proofs.Collected.{back_from, due, report_due}
 use Rattle.sflow_tool.proofs.DeliveredClasses.{briefs_as_sent}
 use Rattle.sflow_tool.proofs.Headline.{delivered, in_their_order}
@@ -48,27 +46,45 @@ same_lines a b input one other =
 pub script_lawful : ScriptsAreLawful → (lines : List Line) (input : List ℕ) → IsScriptOf lines input → AreLawful lines
 script_lawful law lines input script = subst AreLawful (reverse-reverse lines) (law input (reverse lines) script)
 
+in_order : (lines : List Line) → all_delivered lines ≡ reverse (reverse (all_delivered lines))
+in_order lines = sym (reverse-reverse (all_delivered lines))
+
+-- ---- the tests of the premises
+
+-- what is read of the entries that arrive are the datagrams that were delivered
+items_delivered : (lines : List Line) → IsHistory (history_of lines) → AreAccepted (history_of lines)
+    → Delivers (history_of lines) (deliveries_of lines) (reverse (all_delivered lines))
+    → items_in (received_in lines) ≡ map item (deliveries_of lines)
+items_delivered lines history accepted delivers =
+    in_their_order (received_in lines) (reverse (all_delivered lines)) (back_from (all_delivered lines) ∙ in_order lines)
+    ∙ delivered (history_of lines) (deliveries_of lines) (reverse (all_delivered lines)) history accepted delivers
+
+-- and so are their totals
+pub totals_delivered : (l : Limits) (lines : List Line) → IsHistory (history_of lines) → AreAccepted (history_of lines)
+    → Delivers (history_of lines) (deliveries_of lines) (reverse (all_delivered lines)) → (t : Totals)
+    → t ≡ totals l (items_in (received_in lines)) → totals l (map item (deliveries_of lines)) ≡ t
+totals_delivered l lines history accepted delivers t counted =
+    sym (counted ∙ ap (totals l) (items_delivered lines history accepted delivers))
+
+-- each test has its answer
+pub all_tested : (l : Limits) (lines : List Line) (p : TrialPremises)
+    → p.visible ≡ visible l (history_of lines) (deliveries_of lines) → p.close ≡ close l (history_of lines) (deliveries_of lines)
+    → p.roomy ≡ roomy l (deliveries_of lines) → p.apparent ≡ apparent l (history_of lines) (deliveries_of lines)
+    → p ≡ premises_of l lines
+all_tested l lines p v c r a = λ j. record { visible = v j; close = c j; roomy = r j; apparent = a j }
+
+-- ---- where they hold
+
 module _ (l : Limits) (lines : List Line) (history : IsHistory (history_of lines))
     (delivers : Delivers (history_of lines) (deliveries_of lines) (reverse (all_delivered lines)))
     (accepted : AreAccepted (history_of lines))
     (tests : visible l (history_of lines) (deliveries_of lines) ≡ true → close l (history_of lines) (deliveries_of lines) ≡ true
     → roomy l (deliveries_of lines) ≡ true → apparent l (history_of lines) (deliveries_of lines) ≡ true
     → Premises l (history_of lines) (deliveries_of lines)) (hold : premises_of l lines ≡ all_hold) where
-  in_order : all_delivered lines ≡ reverse (reverse (all_delivered lines))
-  in_order = sym (reverse-reverse (all_delivered lines))
-
-  items : items_in (received_in lines) ≡ map item (deliveries_of lines)
-  items =
-      in_their_order (received_in lines) (reverse (all_delivered lines)) (back_from (all_delivered lines) ∙ in_order)
-      ∙ delivered (history_of lines) (deliveries_of lines) (reverse (all_delivered lines)) history accepted delivers
-
-  roomy_same : lists_all l (received_in lines) ≡ roomy l (deliveries_of lines)
-  roomy_same = ap (λ (xs : List Item). ((totals l xs).unlisted == 0) && ((totals l xs).unlisted_samples == 0)) items
-
   premises : Premises l (history_of lines) (deliveries_of lines)
   premises =
       tests (ap (λ (p : TrialPremises). p.visible) hold) (ap (λ (p : TrialPremises). p.close) hold)
-      (sym roomy_same ∙ ap (λ (p : TrialPremises). p.roomy) hold) (ap (λ (p : TrialPremises). p.apparent) hold)
+      (ap (λ (p : TrialPremises). p.roomy) hold) (ap (λ (p : TrialPremises). p.apparent) hold)
 
   abbrev asked : Bool → Collection
   asked interfaces = record { turns = 0; listen = []; limits = l; interfaces = interfaces }
@@ -83,7 +99,7 @@ module _ (l : Limits) (lines : List Line) (history : IsHistory (history_of lines
         premises = premises;
         entries = reverse (all_delivered lines);
         delivers = delivers;
-        in_order = in_order;
+        in_order = in_order lines;
       }))
 
   module _ (input : List ℕ) (read : (a : List Line) → IsScriptOf a input → script_reading input ≡ Ok (reverse a))
@@ -116,5 +132,5 @@ module _ (l : Limits) (lines : List Line) (history : IsHistory (history_of lines
         (tried.were
         ∙ ap (λ (ls : List Line). briefs_in l (received_in ls)) the_lines
         ∙ briefs_as_sent l (history_of lines) (deliveries_of lines) (reverse (all_delivered lines)) (received_in lines) premises
-        accepted delivers (back_from (all_delivered lines) ∙ in_order))
+        accepted delivers (back_from (all_delivered lines) ∙ in_order lines))
         held

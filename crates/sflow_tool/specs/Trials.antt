@@ -1,13 +1,12 @@
 -- A script that is tried: what its lines deliver goes to a collector, each datagram as soon as a line delivers it. Behind the
 -- report stand what the sub-agents did in all and whether the premises hold. Every list of lines has the LATEST FIRST;
 -- entries stand in their order.
-use Rattle.std.specs.Prelude.{◌≡◌, ◌≢◌, ℕ, ◌==◌, ◌&&◌, Bool, true, false, List, [], ◌++◌, Option, Some, None, Result, Ok, Err}
+use Rattle.std.specs.Prelude.{◌≡◌, ◌≢◌, ℕ, Bool, true, false, List, [], ◌++◌, Option, Some, None, Result, Ok, Err}
 use Rattle.std.specs.List.{list_all}
 use Rattle.std.specs.Io.KnownBytes.{IsAtEnd}
 use Rattle.byte_ends.specs.Seen.{Seen, next_count}
 use Rattle.sflow_io.specs.declared.capture.ReadRefusal.{ReadRefusal}
 use Rattle.sflow_io.specs.declared.capture.ReadRefusal.TheVariants as refusals
-use Rattle.books_spec.specs.Books.{totals}
 use Rattle.books_spec.specs.declared.limits.Limits.{Limits}
 use Rattle.capture_spec.specs.Items.{Received}
 use Rattle.script_spec.specs.Lines.{Line}
@@ -15,7 +14,7 @@ use Rattle.script_spec.specs.Rules.{sets_up}
 use Rattle.script_spec.specs.Sent.{all_delivered, datagrams_sent, packets_dropped, samples_issued}
 use Rattle.script_laws.specs.SoFar.{BeginsWithLines, IsScriptOf}
 use Rattle.script_histories.specs.Histories.{deliveries_of, history_of}
-use Rattle.trial_spec.specs.PremiseTests.{apparent, close, visible}
+use Rattle.trial_spec.specs.PremiseTests.{apparent, close, roomy, visible}
 use Rattle.trial_premises.specs.Premises as premises
 use Rattle.trial_premises.specs.declared.delivered.TrueSample.{TrueSample}
 use Rattle.true_samples.specs.declared.samples.IssuedSample.{IssuedSample}
@@ -28,7 +27,7 @@ use Rattle.command_runs.specs.declared.status.Status.{Status}
 use Rattle.command_runs.specs.declared.status.Status.TheVariants.{BadInput, Done, Memory, ReadFault, Spent, WriteFault}
 use Rattle.sflow_tool.specs.AgentWalks.{StopsBehind}
 use Rattle.sflow_tool.specs.Collects.{received_of}
-use Rattle.sflow_tool.specs.Replays.{items_in, report_of}
+use Rattle.sflow_tool.specs.Replays.{report_of}
 use Rattle.sflow_tool.specs.ScriptRuns.{StandsFor}
 use Rattle.sflow_tool.specs.Trues.{TrueOf}
 use Rattle.sflow_tool.specs.declared.trial.TrialStop.{TrialStop}
@@ -44,16 +43,12 @@ received_in lines = received_of (all_delivered lines)
 
 -- ---- what is written
 
--- whether the books of these entries list each stream and each source
-abbrev pub lists_all : Limits → List Received → Bool
-lists_all l entries = ((totals l (items_in entries)).unlisted == 0) && ((totals l (items_in entries)).unlisted_samples == 0)
-
 -- which premises hold of the history of the lines and of what they deliver
 abbrev pub premises_of : Limits → List Line → TrialPremises
 premises_of l lines = record {
   visible = visible l (history_of lines) (deliveries_of lines);
   close = close l (history_of lines) (deliveries_of lines);
-  roomy = lists_all l (received_in lines);
+  roomy = roomy l (deliveries_of lines);
   apparent = apparent l (history_of lines) (deliveries_of lines);
 }
 

@@ -1,8 +1,6 @@
 // `trial`: the report of what a script delivers, and what was true of it.
-ghost use Rattle.std.specs.Prelude.{◌≡◌, ◌+◌, ◌<◌, ◌≤◌, ◌^◌, ◌++◌, ◌==◌, ◌&&◌, [], List, length, vec_len};
+ghost use Rattle.std.specs.Prelude.{◌≡◌, ◌+◌, ◌<◌, ◌≤◌, ◌^◌, ◌++◌, [], List, length, vec_len};
 ghost use Rattle.books_spec.specs.Limits.{AreLawful};
-ghost use Rattle.books_spec.specs.Items.{Item};
-ghost use Rattle.books_spec.specs.Books.{totals as item_totals};
 ghost use Rattle.books_spec.specs.declared.limits.Limits.{Limits as Bounds};
 ghost use Rattle.sample_taps.specs.Classes.{no_classes};
 ghost use Rattle.sample_taps.specs.Feeding.{Held};
@@ -28,15 +26,17 @@ use crate::report::put_report;
 use crate::script_run::Unfit;
 use crate::trial_run::{TrialRun, Tried};
 use command_runs::{Status, flush, status_of};
+use delivered_items::laws::scripts_are_accepted;
 use flow_collector::{Collector, Limits, Seeds};
 use report_lines::{TrialPremises, put_agent_line, put_premises_line};
 use sample_taps::{Tap, Taps};
+use script_histories::laws::scripts_are_histories;
 use script_laws::lines_are_written;
 use script_lines::ScriptReader;
 use sflow_io::{Failed, ReadRefusal, Sink, Source};
 use std::alloc::Global;
 use text_lines::Page;
-use trial_premises::Premises;
+use trial_premises::{Premises, roomy};
 
 // Why a script was left before its end.
 #[derive(Clone, Copy, Debug, PartialEq, Eq)]
@@ -189,23 +189,17 @@ fn put_tail<K: Sink>(
 
 // Which premises hold.
 fn premises_of(premises: &Premises, collector: &Collector) -> TrialPremises
-    ensures { (l : Bounds) (lines : List Line) → Premised premises.now (history_of lines) (deliveries_of lines)
+    ensures { (l : Bounds) (lines : List Line) → Lawful lines → Premised premises.now (history_of lines) (deliveries_of lines)
         → premises.now.limits ≡ l → StandsFor collector.now.books l (items_in (received_in lines))
         → result ≡ premises_in l lines }
 {
+    scripts_are_histories();
+    scripts_are_accepted();
+    let totals = collector.totals();
     TrialPremises {
         visible: premises.visible(),
         close: premises.close(),
-        roomy: lists_all(collector),
+        roomy: roomy(totals.unlisted, totals.unlisted_samples),
         apparent: premises.apparent(),
     }
-}
-
-// Whether each stream and each source is listed.
-fn lists_all(collector: &Collector) -> bool
-    ensures { (l : Bounds) (items : List Item) → StandsFor collector.now.books l items
-        → result ≡ (((item_totals l items).unlisted == 0) && ((item_totals l items).unlisted_samples == 0)) }
-{
-    let totals = collector.totals();
-    totals.unlisted == 0 && totals.unlisted_samples == 0
 }

@@ -12,5 +12,5 @@ returns g c = λ l lines lawful tried few stands.
     prints_second _ _ _ _ _ _ _ _ _
     (agent_written _ lines (c.totals-totals.ensures lines lawful few tried.trues) _ _ _ _ c.in_ok-put_agent_line.ensures)
     (prints_same _ _ _ _ _ _ _
-    (premises_same _ l lines (c.premises_of.ensures l lines tried.premises_stand tried.limits_are stands))
+    (premises_same _ l lines (c.premises_of.ensures l lines lawful tried.premises_stand tried.limits_are stands))
     c.put_premises_line.ensures)
