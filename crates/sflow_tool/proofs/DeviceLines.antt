@@ -49,7 +49,7 @@ use Rattle.agent_sampler.specs.Following.{counts_after, has_place}
 use Rattle.agent_sampler.specs.Sampling.{word_behind}
 use Rattle.true_samples.specs.declared.calls.Seen.TheVariants as answers
 use Rattle.true_samples.specs.Counts.{id_in, seen_of}
-use Rattle.sflow_tool.specs.Steps.{HappensAt, Observes, ResetsAt, RestartsAt, seen_as}
+use Rattle.sflow_tool.specs.Steps.{Observes, ResetsAt, RestartsAt, seen_as}
 use Rattle.sflow_tool.proofs.Earlier.{behind_at, behind_of, earlier_stays, restart_earlier}
 use Rattle.sflow_tool.specs.ScriptBoots.{DeviceOf, boot_now, boots_now}
 use Rattle.sflow_tool.proofs.Roomy.{HasAddress, IsRoomy, counters_have_room, each_has, packets_fit, roomy, roomy_at}
@@ -208,10 +208,9 @@ roomy_all lines lawful =
     imply [] h = tt
     imply (x ∷ more) h = (roomy lines lawful x h.0, imply more h.1)
 
-abbrev Saw : DeviceState → DeviceState → SourceId → Packet → Seen → List BootSoFar → Type 0
-Saw old new id p seen boots =
-    (k : ℕ) × (devices.home_of true id old.subs ≡ Some k)
-    × (b : BootSoFar) × (f : spec.FlowSetup) × (slice_get boots k ≡ Some b) × IsAmong f b.setup.flows
+abbrev Saw : DeviceState → ℕ → SourceId → Packet → Seen → List BootSoFar → Type 0
+Saw new k id p seen boots =
+    (b : BootSoFar) × (f : spec.FlowSetup) × (slice_get boots k ≡ Some b) × IsAmong f b.setup.flows
     × (f.source ≡ flow_source id) × (seen ≡ seen_by f b)
     × StandForEach new.subs (set boots k (with_event (Observe f (packet_of p)) b))
 
@@ -246,20 +245,18 @@ observed_refused old id p e lines lawful h refused =
     ∙ none_refuses id p old.subs (boots_now lines) h (roomy_all lines lawful.2) (single_of (place_of (source_said true id)) p lawful.0)
     (packet_home old id p lines lawful h) in cc)
 
-pub observed : (old new : DeviceState) (id : SourceId) (p : Packet) (place : ℕ) (seen : Seen) (lines : List Line)
-    → AreLawful (packet_line id p ∷ lines) → devices.home_of true id old.subs ≡ Some place
-    → Saw old new id p seen (boots_now lines)
-    → DeviceOf new (packet_line id p ∷ lines) × Observes lines (packet_line id p) place id (seen_as seen)
-observed old new id p place seen lines lawful home (k, there, b, f, at, among, source, what, next) =
-    let same : k ≡ place = same_Some _ _ (sym there ∙ home) in
+pub observed : (new : DeviceState) (id : SourceId) (p : Packet) (k : ℕ) (seen : Seen) (lines : List Line)
+    → AreLawful (packet_line id p ∷ lines) → Saw new k id p seen (boots_now lines)
+    → DeviceOf new (packet_line id p ∷ lines) × Observes lines (packet_line id p) k id (seen_as seen)
+observed new id p k seen lines lawful (b, f, at, among, source, what, next) =
     let boots = packet_boots lines (place_of (source_said true id)) (packet_of p) k b f lawful.2 at among source in (
       subst (StandForEach new.subs) boots next,
       record {
         boot = b;
         flow = f;
         packet = packet_of p;
-        happens = subst (λ (n : ℕ). HappensAt lines (packet_line id p) n b (Observe f (packet_of p))) same
-            (record { there = at; boots = sym boots; earlier = earlier_stays (packet_line id p) lines refl; delivers_none = refl });
+        happens =
+            record { there = at; boots = sym boots; earlier = earlier_stays (packet_line id p) lines refl; delivers_none = refl };
         among = among;
         source_is = ap id_in source;
         seen_is = ap seen_as what ∙ same_answer f b;
@@ -272,9 +269,9 @@ pub reset_source : (flow : Bool) (id : SourceId) → source_of_kind flow id ≡ 
 reset_source true id = refl
 reset_source false id = refl
 
-abbrev Began : DeviceState → DeviceState → Bool → SourceId → List BootSoFar → Type 0
-Began old new flow id boots =
-    (k : ℕ) × (devices.home_of flow id old.subs ≡ Some k) × (b : BootSoFar) × (slice_get boots k ≡ Some b)
+abbrev Began : DeviceState → ℕ → Bool → SourceId → List BootSoFar → Type 0
+Began new k flow id boots =
+    (b : BootSoFar) × (slice_get boots k ≡ Some b)
     × StandForEach new.subs (set boots k (with_event (Reset (source_of_kind flow id)) b))
 
 set_there : {X : Type 0} (xs : List X) (k : ℕ) (x y : X) → slice_get xs k ≡ Some x → slice_get (set xs k y) k ≡ Some y
@@ -294,16 +291,10 @@ pub reset_none : {P : Type 0} (old : DeviceState) (flow : Bool) (id : SourceId) 
 reset_none old flow id lines lawful h none =
     absurd (true≢false (sym (reset_home old flow id lines lawful h) ∙ (found-none flow id old.subs none).none))
 
-pub reset_refused : {P : Type 0} (old : DeviceState) (flow : Bool) (id : SourceId) (lines : List Line)
-    → AreLawful (reset_line flow id ∷ lines) → DeviceOf old lines → has_kind flow id old.subs ≡ false → P
-reset_refused old flow id lines lawful h none = absurd (true≢false (sym (reset_home old flow id lines lawful h) ∙ none))
-
-pub reset_done : (old new : DeviceState) (flow : Bool) (id : SourceId) (place : ℕ) (lines : List Line)
-    → AreLawful (reset_line flow id ∷ lines) → devices.home_of flow id old.subs ≡ Some place
-    → Began old new flow id (boots_now lines)
-    → DeviceOf new (reset_line flow id ∷ lines) × ResetsAt lines (reset_line flow id) place flow id
-reset_done old new flow id place lines lawful home (k, there, b, at, next) =
-    let same : k ≡ place = same_Some _ _ (sym there ∙ home) in
+pub reset_done : (new : DeviceState) (flow : Bool) (id : SourceId) (k : ℕ) (lines : List Line)
+    → AreLawful (reset_line flow id ∷ lines) → Began new k flow id (boots_now lines)
+    → DeviceOf new (reset_line flow id ∷ lines) × ResetsAt lines (reset_line flow id) k flow id
+reset_done new flow id k lines lawful (b, at, next) =
     let here = sub_at new.subs _ k (with_event (Reset (source_of_kind flow id)) b) next (set_there (boots_now lines) k b _ at) in
     let had : HasSource b.setup (source_said flow id) =
     subst (HasSource b.setup) (reset_source flow id) here.stands.lawful.0 in
@@ -312,8 +303,8 @@ reset_done old new flow id place lines lawful home (k, there, b, at, next) =
           (ap (λ (s : Source). set (boots_now lines) k (with_event (Reset s) b)) (reset_source flow id) ∙ boots) next,
       record {
         boot = b;
-        happens = subst (λ (n : ℕ). HappensAt lines (reset_line flow id) n b (Reset (source_said flow id))) same
-            (record { there = at; boots = sym boots; earlier = earlier_stays (reset_line flow id) lines refl; delivers_none = refl });
+        happens =
+            record { there = at; boots = sym boots; earlier = earlier_stays (reset_line flow id) lines refl; delivers_none = refl };
         among = had;
       },
     )

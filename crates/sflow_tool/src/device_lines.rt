@@ -43,7 +43,7 @@ pub(crate) fn observe(device: &mut Device, source: SourceId, packet: &Packet<'_>
     let Some(place) = device.home(true, source) else {
         return Step::SetUp;
     };
-    match device.observe(source, packet) {
+    match device.observe_at(place, source, packet) {
         Ok(answer) => Step::Observed {
             place,
             source,
@@ -121,7 +121,7 @@ pub(crate) fn reset(device: &mut Device, flow: bool, source: SourceId) -> Step
     let Some(place) = device.home(flow, source) else {
         return Step::SetUp;
     };
-    match device.reset(flow, source) {
+    match device.reset_at(place, flow, source) {
         Ok(()) => Step::Reset {
             place,
             flow,

@@ -138,8 +138,10 @@ impl Device {
         None
     }
 
-    // Observes a packet of a source of the sub-agent at a place.
-    fn observe_at(
+    /// Observes a packet of a source of flow samples, as the sub-agent does that has it. Its place is the one that `home`
+    /// tells, counted from 0; it isn't searched for again. A refusal leaves all as it was, and comes as in `observe`, but
+    /// for `NoSource`, which never comes.
+    pub fn observe_at(
         &mut self,
         place: usize,
         source: SourceId,
@@ -156,8 +158,10 @@ impl Device {
         self.subs[place].observe(source, packet)
     }
 
-    // Begins a source of the sub-agent at a place anew.
-    fn reset_at(&mut self, place: usize, flow: bool, source: SourceId) -> Result<(), NoSource>
+    /// Begins a source of flow samples anew, or where `flow` is false a source of counters samples, as the sub-agent does
+    /// that has it. Its place is the one that `home` tells, counted from 0; it isn't searched for again. `NoSource` never
+    /// comes.
+    pub fn reset_at(&mut self, place: usize, flow: bool, source: SourceId) -> Result<(), NoSource>
         requires { home_of flow source self.old.subs ≡ Some place }
         ensures reset { IsOk result }
         ensures stands { (boots : List BootSoFar) → StandForEach self.old.subs boots → OnOk result (

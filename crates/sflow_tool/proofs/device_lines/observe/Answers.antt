@@ -10,8 +10,8 @@ returns-in_default c = λ lines lawful h.
 
 pub returns-in-Ok : goal.returns-in-Ok
 returns-in-Ok c = λ lines lawful h.
-    let x = observed c.args.device.now c.observe.new.self c.args.source c.args.packet.now c.in-Some.place c.in-Ok.answer lines lawful
-    (sym c.home.ensures ∙ c.in-Some.is) (c.in-Ok.ensures.stands (boots_now lines) h) in
+    let x = observed c.observe_at.new.self c.args.source c.args.packet.now c.in-Some.place c.in-Ok.answer lines lawful
+    (c.in-Ok.ensures.stands (boots_now lines) h) in
     (x.0, (subst (Observes lines (packet_line c.args.source c.args.packet.now) c.in-Some.place c.args.source) (sym c.seen_as.ensures) x.1, refl))
 
 pub returns-in-Err : goal.returns-in-Err

@@ -1,6 +1,6 @@
-use Rattle.std.proofs.Common.{◌∙◌, refl, rules, sym}
+use Rattle.std.proofs.Common.{◌∙◌, refl, sym}
 use Rattle.sflow_tool.specs.ScriptBoots.{boots_now}
-use Rattle.sflow_tool.proofs.DeviceLines.{reset_done, reset_none, reset_refused}
+use Rattle.sflow_tool.proofs.DeviceLines.{reset_done, reset_none}
 use Rattle.sflow_tool.proofs.device_lines.reset.Goals as goal
 
 pub returns-in_default : goal.returns-in_default
@@ -9,10 +9,6 @@ returns-in_default c = λ lines lawful h.
 
 pub returns-in-Ok : goal.returns-in-Ok
 returns-in-Ok c = λ lines lawful h.
-    let x = reset_done c.args.device.now c.reset.new.self c.args.flow c.args.source c.in-Some.place lines lawful
-    (sym c.home.ensures ∙ c.in-Some.is) (c.in-Ok.ensures.stands (boots_now lines) h) in
+    let x = reset_done c.reset_at.new.self c.args.flow c.args.source c.in-Some.place lines lawful
+    (c.in-Ok.ensures.stands (boots_now lines) h) in
     (x.0, (x.1, refl))
-
-pub returns-in-Err : goal.returns-in-Err
-returns-in-Err c = λ lines lawful h.
-    reset_refused c.args.device.now c.args.flow c.args.source lines lawful h (c.in-Err.ensures.refused.0 (search rules))
