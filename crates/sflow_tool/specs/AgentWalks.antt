@@ -1,12 +1,11 @@
 -- A walk over the lines of a script as they are read, with a page on its way to a sink. Every list of lines has the LATEST
 -- FIRST.
-use Rattle.std.specs.Prelude.{◌≡◌, ◌≢◌, ◌≤◌, ◌||◌, ℕ, Bool, true, false, List, [], ◌++◌, ◌∷◌, Option, Some, Result, Ok, Err, flat_map, length, map}
-use Rattle.std.specs.Io.KnownBytes.{IsAtEnd}
+use Rattle.std.specs.Prelude.{◌≡◌, ◌≤◌, ◌||◌, ℕ, Bool, true, false, List, [], ◌++◌, ◌∷◌, Option, Some, Result, Ok, Err, flat_map, length, map}
 use Rattle.wire_spec.specs.Captures.{Entry, entry_bytes}
 use Rattle.wire_spec.specs.declared.input_kind.InputKind.TheVariants.{Script}
 use Rattle.sflow_io.specs.declared.capture.ReadRefusal.{ReadRefusal}
 use Rattle.sflow_io.specs.declared.capture.ReadRefusal.TheVariants as refusals
-use Rattle.byte_ends.specs.Seen.{Seen, TakesPart, next_count}
+use Rattle.byte_ends.specs.Seen.{Seen, TakesPart}
 use Rattle.text_lines.specs.Pages.{Puts}
 use Rattle.agent_outlets.specs.Outlets.{PutView, put_view}
 use Rattle.agent_outlets.specs.declared.list_outlet.Put.{Put}
@@ -22,6 +21,7 @@ use Rattle.sflow_tool.specs.declared.script_run.ScriptRun.{ScriptRun}
 use Rattle.sflow_tool.specs.Agents.{agent_part, are_some, entries_put}
 use Rattle.sflow_tool.specs.ScriptBoots.{put_entry}
 use Rattle.sflow_tool.specs.ScriptRuns.{StandsFor}
+use Rattle.sflow_tool.specs.WalkEnds.{HasCause}
 
 -- ---- what is put
 
@@ -108,12 +108,6 @@ LinesEnd source source' m (Err (stops.Read refusal)) = TookLines source source' 
 LinesEnd source source' m (Err stops.Write) = NotWritten source m
 LinesEnd source source' m (Err stops.Memory) = Lacking source m
 
--- a walk over all lines has left the source at its end
-abbrev pub LeavesAtEnd : Result Bool AgentStop → Seen → Type 0
-LeavesAtEnd (Ok opened) source = IsAtEnd source.told
-LeavesAtEnd (Err stop) source = Unit {0}
-
 -- where a read fault ended the walk one call of the source failed, and else none
-pub record HasLineCause (source source' : Seen) (result : Result Bool AgentStop) : Type 0 where
-  pub failed : result ≡ Err (stops.Read refusals.ReadFault) → source'.faults ≡ next_count source.faults
-  pub kept : result ≢ Err (stops.Read refusals.ReadFault) → source'.faults ≡ source.faults
+abbrev pub HasLineCause : Seen → Seen → Result Bool AgentStop → Type 0
+HasLineCause source source' result = HasCause (result ≡ Err (stops.Read refusals.ReadFault)) source source'

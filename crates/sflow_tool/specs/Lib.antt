@@ -2,6 +2,7 @@ pub mod Faults
 pub mod Shows
 pub mod Checks
 pub mod Canons
+pub mod WalkEnds
 pub mod Replays
 pub mod Pcaps
 pub mod ScriptBoots

@@ -1,9 +1,8 @@
 -- What `replay` writes and what it feeds: the report of the books of a capture's entries, each an item for the collector,
 -- and a brief for each sampled header that counts.
-use Rattle.std.specs.Prelude.{◌≡◌, ◌≢◌, ℕ, Bool, false, true, List, [], map, reverse, Option, Some, Result, Ok, Err}
-use Rattle.std.specs.Io.KnownBytes.{IsAtEnd}
+use Rattle.std.specs.Prelude.{◌≡◌, ℕ, Bool, false, true, List, [], map, reverse, Option, Some, Result, Ok, Err}
 use Rattle.wire_spec.specs.Bytes.{AreBytes}
-use Rattle.byte_ends.specs.Seen.{Seen, next_count}
+use Rattle.byte_ends.specs.Seen.{Seen}
 use Rattle.capture_spec.specs.declared.capture_version.CaptureVersion.{CaptureVersion}
 use Rattle.sflow_io.specs.CaptureSteps.{EndsAt, IsAllOf}
 use Rattle.sflow_io.specs.declared.capture.ReadRefusal.{ReadRefusal}
@@ -24,6 +23,7 @@ use Rattle.report_lines.specs.HeaderLines.{ShownTaps}
 use Rattle.report_lines.specs.InterfaceLines.{report_with}
 use Rattle.command_runs.specs.Acts.{Act}
 use Rattle.command_runs.specs.Grammars.{Capture}
+use Rattle.sflow_tool.specs.WalkEnds.{HasCause}
 
 -- a datagram with its arrival, or the fault of the entry's bytes, where padding is free
 abbrev pub entry_item : Received → Item
@@ -93,12 +93,6 @@ abbrev pub Took : (List Received → Type 0) → Seen → Seen → Result (Unit 
 Took takes source source' (Ok all) = TookAll takes source
 Took takes source source' (Err refusal) = TookSome takes source source' refusal
 
--- all entries have left the source at its end
-abbrev pub LeavesAtEnd : Result (Unit {0}) ReadRefusal → Seen → Type 0
-LeavesAtEnd (Ok all) source = IsAtEnd source.told
-LeavesAtEnd (Err refusal) source = Unit {0}
-
 -- at a read fault one call of the source failed, and else none
-pub record HasTakeCause (source source' : Seen) (result : Result (Unit {0}) ReadRefusal) : Type 0 where
-  pub failed : result ≡ Err refusals.ReadFault → source'.faults ≡ next_count source.faults
-  pub kept : result ≢ Err refusals.ReadFault → source'.faults ≡ source.faults
+abbrev pub HasTakeCause : Seen → Seen → Result (Unit {0}) ReadRefusal → Type 0
+HasTakeCause source source' result = HasCause (result ≡ Err refusals.ReadFault) source source'

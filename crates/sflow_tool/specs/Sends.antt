@@ -1,9 +1,8 @@
 -- What `send` does: it sends the bytes of each entry of a capture over a link, and writes how many it sent.
 use Rattle.std.specs.Prelude.{◌≡◌, ◌≢◌, ℕ, List, [], ◌∷◌, ◌++◌, length, map, codes, decimal, false, true, Some, Result, Ok, Err}
 use Rattle.std.specs.List.{concat}
-use Rattle.std.specs.Io.KnownBytes.{IsAtEnd}
 use Rattle.wire_spec.specs.Bytes.{AreBytes}
-use Rattle.byte_ends.specs.Seen.{Seen, next_count}
+use Rattle.byte_ends.specs.Seen.{Seen}
 use Rattle.datagram_links.specs.Links.{LinkSeen, aimed, failed, told_as}
 use Rattle.capture_spec.specs.Items.{Received}
 use Rattle.sflow_io.specs.CaptureSteps.{BeginsWithEntries}
@@ -18,6 +17,7 @@ use Rattle.sflow_tool.specs.declared.send.SendStop.{SendStop}
 use Rattle.sflow_tool.specs.declared.send.SendStop.TheVariants as stops
 use Rattle.sflow_tool.specs.Replays.{TookAll, TookSome}
 use Rattle.sflow_tool.specs.Surroundings.{Surroundings}
+use Rattle.sflow_tool.specs.WalkEnds.{HasCause}
 
 -- the link took these datagrams to send, in order
 abbrev pub sent_all : List (List ℕ) → LinkSeen → LinkSeen
@@ -105,11 +105,6 @@ SendsEnd source source' link link' (Ok count) = TookAll (HasSentAll link link' c
 SendsEnd source source' link link' (Err (stops.Read refusal)) = TookSome (HasSent link link') source source' refusal
 SendsEnd source source' link link' (Err stops.Link) = SendFailed source link link'
 
-abbrev pub SentToTheEnd : Result ℕ SendStop → Seen → Type 0
-SentToTheEnd (Ok count) source = IsAtEnd source.told
-SentToTheEnd (Err stop) source = Unit {0}
-
 -- at a read fault one call of the source failed, and else none
-pub record HasSendCause (source source' : Seen) (result : Result ℕ SendStop) : Type 0 where
-  pub failed : result ≡ Err (stops.Read refusals.ReadFault) → source'.faults ≡ next_count source.faults
-  pub kept : result ≢ Err (stops.Read refusals.ReadFault) → source'.faults ≡ source.faults
+abbrev pub HasSendCause : Seen → Seen → Result ℕ SendStop → Type 0
+HasSendCause source source' result = HasCause (result ≡ Err (stops.Read refusals.ReadFault)) source source'

@@ -1,10 +1,9 @@
 -- A script that is tried: what its lines deliver goes to a collector, each datagram as soon as a line delivers it. Behind the
 -- report stand what the sub-agents did in all and whether the premises hold. Every list of lines has the LATEST FIRST;
 -- entries stand in their order.
-use Rattle.std.specs.Prelude.{◌≡◌, ◌≢◌, ℕ, Bool, true, false, List, [], ◌++◌, Option, Some, None, Result, Ok, Err}
+use Rattle.std.specs.Prelude.{◌≡◌, ℕ, Bool, true, false, List, [], ◌++◌, Option, Some, None, Result, Ok, Err}
 use Rattle.std.specs.List.{list_all}
-use Rattle.std.specs.Io.KnownBytes.{IsAtEnd}
-use Rattle.byte_ends.specs.Seen.{Seen, next_count}
+use Rattle.byte_ends.specs.Seen.{Seen}
 use Rattle.sflow_io.specs.declared.capture.ReadRefusal.{ReadRefusal}
 use Rattle.sflow_io.specs.declared.capture.ReadRefusal.TheVariants as refusals
 use Rattle.books_spec.specs.declared.limits.Limits.{Limits}
@@ -30,6 +29,7 @@ use Rattle.sflow_tool.specs.Collects.{received_of}
 use Rattle.sflow_tool.specs.Replays.{report_of}
 use Rattle.sflow_tool.specs.ScriptRuns.{StandsFor}
 use Rattle.sflow_tool.specs.Trues.{TrueOf}
+use Rattle.sflow_tool.specs.WalkEnds.{HasCause}
 use Rattle.sflow_tool.specs.declared.trial.TrialStop.{TrialStop}
 use Rattle.sflow_tool.specs.declared.trial.TrialStop.TheVariants as stops
 use Rattle.sflow_tool.specs.declared.trial_run.TrialRun.{TrialRun}
@@ -134,15 +134,9 @@ TrialEnds stands takes source source' (Ok all) = TriedScript stands takes source
 TrialEnds stands takes source source' (Err (stops.Read refusal)) = TriedLines takes source source' refusal
 TrialEnds stands takes source source' (Err stops.Memory) = TriedSome takes source
 
--- a walk over all lines has left the source at its end
-abbrev pub LeavesAtEnd : Result (Unit {0}) TrialStop → Seen → Type 0
-LeavesAtEnd (Ok all) source = IsAtEnd source.told
-LeavesAtEnd (Err stop) source = Unit {0}
-
 -- where a read fault ended the walk one call of the source failed, and else none
-pub record HasTrialCause (source source' : Seen) (result : Result (Unit {0}) TrialStop) : Type 0 where
-  pub failed : result ≡ Err (stops.Read refusals.ReadFault) → source'.faults ≡ next_count source.faults
-  pub kept : result ≢ Err (stops.Read refusals.ReadFault) → source'.faults ≡ source.faults
+abbrev pub HasTrialCause : Seen → Seen → Result (Unit {0}) TrialStop → Type 0
+HasTrialCause source source' result = HasCause (result ≡ Err (stops.Read refusals.ReadFault)) source source'
 
 -- ---- what came before a run ended
 

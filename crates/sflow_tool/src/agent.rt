@@ -13,7 +13,8 @@ ghost use Rattle.command_runs.specs.Grammars.{scripts};
 ghost use Rattle.command_runs.specs.Outside.{outside};
 ghost use Rattle.command_runs.specs.Runs.{Runs};
 ghost use Rattle.sflow_tool.specs.Agents.{agent_act, are_some, entries_put, opening};
-ghost use Rattle.sflow_tool.specs.AgentWalks.{HasLineCause, IsShort, IsShortPut, LeavesAtEnd, LineEnds, LinesEnd, entries_at, put_text, puts_text};
+ghost use Rattle.sflow_tool.specs.AgentWalks.{HasLineCause, IsShort, IsShortPut, LineEnds, LinesEnd, entries_at, put_text, puts_text};
+ghost use Rattle.sflow_tool.specs.WalkEnds.{LeavesAtEnd};
 ghost use Rattle.sflow_tool.specs.ScriptRuns.{IsSound, StandsFor};
 ghost use Rattle.sflow_tool.specs.Steps.{entries_of};
 

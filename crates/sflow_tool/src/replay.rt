@@ -23,7 +23,8 @@ ghost use Rattle.command_runs.specs.Runs.{Runs};
 ghost use Rattle.command_runs.specs.Visits.{HasVisited};
 ghost use Rattle.command_runs.specs.Walks.{IsFresh};
 ghost use Rattle.sflow_tool.specs.Passing.{agent_where, first_agent};
-ghost use Rattle.sflow_tool.specs.Replays.{Collects, HasTakeCause, LeavesAtEnd, Took, briefs_in, replay_act};
+ghost use Rattle.sflow_tool.specs.Replays.{Collects, HasTakeCause, Took, briefs_in, replay_act};
+ghost use Rattle.sflow_tool.specs.WalkEnds.{LeavesAtEnd};
 
 use crate::report::put_report;
 use command_runs::{Status, flush, new_room, status_of};

@@ -4,7 +4,8 @@ ghost use Rattle.report_lines.specs.HeaderLines.{ShownTaps};
 ghost use Rattle.text_lines.specs.Pages.{Prints};
 ghost use Rattle.command_runs.specs.Endings.{Flushed};
 ghost use Rattle.command_runs.specs.Walks.{IsFresh};
-ghost use Rattle.sflow_tool.specs.Sends.{HasSendCause, Sends, SendsEnd, SentToTheEnd, sent_line};
+ghost use Rattle.sflow_tool.specs.Sends.{HasSendCause, Sends, SendsEnd, sent_line};
+ghost use Rattle.sflow_tool.specs.WalkEnds.{LeavesAtEnd};
 ghost use Rattle.sflow_tool.specs.Surroundings.{surroundings};
 
 use command_runs::{Status, flush, new_room, status_of};
@@ -63,7 +64,7 @@ fn send_entries<S: Source, L: Link>(
     requires fresh { IsFresh reader.old }
     requires room { 65535 ≤ length room.old }
     ensures sends { SendsEnd (S.seen source.old) (S.seen source.new) (L.seen link.old) (L.seen link.new) result }
-    ensures at_end { SentToTheEnd result (S.seen source.new) }
+    ensures at_end { LeavesAtEnd result (S.seen source.new) }
     ensures cause { HasSendCause (S.seen source.old) (S.seen source.new) result }
 {
     for count in 0..MAX_ENTRIES + 1 {

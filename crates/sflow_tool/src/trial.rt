@@ -19,7 +19,8 @@ ghost use Rattle.script_histories.specs.Histories.{deliveries_of, history_of};
 ghost use Rattle.trial_premises.specs.Premises.{StandsFor as Premised};
 ghost use Rattle.report_lines.specs.InterfaceLines.{report_with};
 ghost use Rattle.books_spec.specs.WholeBooks.{whole_books};
-ghost use Rattle.sflow_tool.specs.Trials.{HasTrialCause, HasTriedLines, IsOpen, IsTried, LeavesAtEnd, TrialEnds, TrialStands, premises_of as premises_in, received_in, tail_of, trial_act};
+ghost use Rattle.sflow_tool.specs.Trials.{HasTrialCause, HasTriedLines, IsOpen, IsTried, TrialEnds, TrialStands, premises_of as premises_in, received_in, tail_of, trial_act};
+ghost use Rattle.sflow_tool.specs.WalkEnds.{LeavesAtEnd};
 
 use crate::agent::{MAX_LINES, broken};
 use crate::report::put_report;
