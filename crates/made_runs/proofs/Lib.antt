@@ -3,3 +3,4 @@ mod Going
 mod Skips
 mod Kept
 mod Accepted
+pub mod Telling
