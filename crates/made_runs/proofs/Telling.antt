@@ -29,7 +29,7 @@ use Rattle.script_histories.proofs.Stays.{delivered_stays}
 use Rattle.trial_spec.specs.Made.{Made, all_drawn, begun, drawn, frame, made_counter, made_flow, made_packet, made_sender, made_setup, made_stream, boot_number, observed, polled, restarted, uptime, with_event, next_state, sent_so_far, Sent}
 use Rattle.made_runs.specs.declared.arrivals.Arrival.{Arrival}
 use Rattle.made_runs.specs.Runs.{RunState, StandsFor, IsHeld, IsDelivered, Adds}
-use Rattle.made_runs.specs.Scripts.{Tells, all_said, events_in, flow_said, made_sub, named_by, port, sub_said}
+use Rattle.made_runs.specs.Scripts.{Tells, all_said, events_in, flow_said, line_of, made_sub, named_by, port, sub_said}
 
 -- ---- lines within their ranges
 
@@ -217,10 +217,6 @@ restarts seed at lines m small h =
       earlier_are = ap (λ (es : List (List Event)). m.events ∷ es) h.earlier_are;
       deliveries_are = other_deliveries line lines refl ∙ h.deliveries_are;
     }
-
--- what is delivered
-abbrev line_of : Arrival → script.Delivery
-line_of a = record { id = 1; boot = a.boot; number = a.number; at = a.at }
 
 named_at : (lines : List Line) (a : Arrival) → delivered lines (line_of a) ≡ named_by lines a.boot a.number
 unfolding delivered

@@ -1,14 +1,25 @@
 -- The script of a made run: lines that say what happens in it, one after the other. Every list of lines, boots, events and
 -- deliveries has the LATEST FIRST.
-use Rattle.std.specs.Prelude.{◌≡◌, ℕ, List, [], ◌∷◌, map}
+use Rattle.std.specs.Prelude.{◌≡◌, ℕ, suc, ◌+◌, ◌*◌, ◌<◌, ◌≤◌, true, None, List, [], ◌∷◌, drop, length, map}
 use Rattle.agent_spec.specs.Events.{Event}
 use Rattle.script_spec.specs.Values.{Place}
+use Rattle.script_spec.specs.Lines as script
 use Rattle.script_spec.specs.Lines.{Line, SubLine, FlowLine, CounterLine, SubAgent}
 use Rattle.script_spec.specs.Agents.{AgentBoot, boots_of, delivered, sender_of, setup_of, sources_in, subs_in}
+use Rattle.script_spec.specs.Rules.{may_follow}
+use Rattle.script_spec.specs.Sent as sent
 use Rattle.script_laws.specs.Lawful.{AreLawful}
-use Rattle.script_histories.specs.Histories.{deliveries_of}
-use Rattle.trial_spec.specs.Made.{Made, made_counter, made_flow, made_sender, made_setup}
-use Rattle.made_runs.specs.Runs.{Naming}
+use Rattle.script_laws.specs.Written.{may_be_written}
+use Rattle.account_spec.specs.Deliveries.{Delivery}
+use Rattle.script_histories.specs.Histories.{deliveries_of, history_of}
+use Rattle.trial_spec.specs.Made.{Made, all_decided, begun, boot_number, is_sent, made, made_counter, made_deliveries, made_flow, made_history, made_sender, made_setup, made_until, observed, polled, restarted, sent_all, sent_so_far}
+use Rattle.made_runs.specs.Runs.{Naming, RunState, Adds, IsShort, StandsFor, arrived}
+use Rattle.made_runs.specs.declared.arrivals.Arrival.{Arrival}
+use Rattle.made_runs.specs.declared.arrivals.Arrivals.{Arrivals}
+use Rattle.made_runs.specs.declared.script.Phase.{Phase}
+use Rattle.made_runs.specs.declared.script.Phase.TheVariants.{Packet, Poll, Send, Decide, Restart, Done}
+use Rattle.made_runs.specs.declared.script.Stage.{Stage}
+use Rattle.made_runs.specs.declared.script.Stage.TheVariants.{Sub, Flow, Counter, Going}
 
 -- the sub-agent, whose first boot arrives at the time at which the run begins
 abbrev pub made_sub : SubAgent
@@ -47,3 +58,150 @@ pub record Tells (seed : ℕ) (lines : List Line) (m : Made) : Type 0 where
   pub boots_are : boots_of lines made_sub ≡ record { at = at; events = m.events } ∷ older
   pub earlier_are : map events_in older ≡ m.earlier
   pub deliveries_are : deliveries_of lines ≡ m.deliveries
+
+-- ---- what is kept of the script
+
+-- so many packets of all that come were seen, and of so many datagrams of this boot it is decided what becomes of them
+pub record ScriptState : Type 0 where
+  pub seed : ℕ
+  pub total : ℕ
+  pub run : RunState
+  pub packets : ℕ
+  pub decided : ℕ
+  pub due : Arrivals
+  pub stage : Stage
+
+abbrev pub nothing_due : Arrivals
+nothing_due = record { first = None; second = None; held = None }
+
+-- ---- the run behind a packet
+
+-- behind the packet that comes behind so many
+abbrev pub seen : ℕ → ℕ → ℕ → Made
+seen seed total before = observed seed (made_until seed total before)
+
+-- and behind its poll
+abbrev pub polled_behind : ℕ → ℕ → ℕ → Made
+polled_behind seed total before = polled seed (seen seed total before)
+
+abbrev pub sent_count : ℕ → Made → ℕ
+sent_count seed m = length (sent_so_far seed m)
+
+-- where all is decided that was sent
+abbrev pub IsDecided : ScriptState → Made → Type 0
+IsDecided s m = s.decided ≡ sent_count s.seed m
+
+-- before the next packet
+pub record BeforePacket (s : ScriptState) (m : Made) : Type 0 where
+  pub more : s.packets < s.total
+  pub is : m ≡ made_until s.seed s.total s.packets
+  pub decided : IsDecided s m
+
+-- behind the packet that comes behind so many, where something is sent
+pub record BehindPacket (s : ScriptState) : Type 0 where
+  pub before : ℕ
+  pub packets_are : s.packets ≡ suc before
+  pub among : s.packets ≤ s.total
+  pub sent : is_sent s.total s.packets ≡ true
+
+pub record BeforePoll (s : ScriptState) (m : Made) : Type 0 where
+  pub behind : BehindPacket s
+  pub is : m ≡ seen s.seed s.total behind.before
+  pub decided : IsDecided s m
+
+pub record BeforeSend (s : ScriptState) (m : Made) : Type 0 where
+  pub behind : BehindPacket s
+  pub is : m ≡ polled_behind s.seed s.total behind.before
+  pub decided : IsDecided s m
+
+-- what is still to be decided leads to the run behind the send
+pub record Deciding (s : ScriptState) (m : Made) : Type 0 where
+  pub behind : BehindPacket s
+  pub leads : all_decided (boot_number m) (drop s.decided (sent_so_far s.seed m)) m
+      ≡ sent_all s.seed (polled_behind s.seed s.total behind.before)
+  pub most : s.decided ≤ sent_count s.seed m
+
+pub record BeforeRestart (s : ScriptState) (m : Made) : Type 0 where
+  pub more : s.packets < s.total
+  pub leads : restarted m ≡ made_until s.seed s.total s.packets
+  pub decided : IsDecided s m
+  pub none_held : m.held ≡ None
+
+pub record AtEnd (s : ScriptState) (m : Made) : Type 0 where
+  pub is : m ≡ made s.seed s.total
+  pub decided : IsDecided s m
+
+abbrev pub IsAt : Phase → ScriptState → Made → Type 0
+IsAt Packet s m = BeforePacket s m
+IsAt Poll s m = BeforePoll s m
+IsAt Send s m = BeforeSend s m
+IsAt Decide s m = Deciding s m
+IsAt Restart s m = BeforeRestart s m
+IsAt Done s m = AtEnd s m
+
+-- how many of the 60 lines that a packet gives at most are not used where the script is here
+abbrev pub unused : Phase → ℕ
+unused Packet = 0
+unused Poll = 59
+unused Send = 58
+unused Decide = 2
+unused Restart = 1
+unused Done = 0
+
+-- ---- where the script is
+
+-- the lines have told the run up to what is still due
+pub record Goes (phase : Phase) (s : ScriptState) (lines : List Line) : Type 0 where
+  pub now : Made
+  pub told : List Delivery
+  pub tells : Tells s.seed lines (record now { deliveries = told })
+  pub run : StandsFor (named_by lines) s.run now
+  pub short : IsShort now
+  pub due : Adds (named_by lines) (arrived s.due) told now.deliveries
+  pub at : IsAt phase s now
+  pub few : length lines + length (arrived s.due) + 3 * sent_count s.seed now + unused phase ≤ 3 + 60 * s.packets + 3 * s.decided
+  pub total : s.packets ≤ s.total
+  pub most : s.total ≤ 10000000
+
+-- nothing has happened
+pub record IsNew (s : ScriptState) : Type 0 where
+  pub run : (names : Naming) → StandsFor names s.run (begun s.seed)
+  pub none_due : s.due ≡ nothing_due
+  pub packets : s.packets ≡ 0
+  pub decided : s.decided ≡ 0
+  pub least : 1 ≤ s.total
+  pub most : s.total ≤ 10000000
+
+abbrev pub StandsAt : Stage → ScriptState → List Line → Type 0
+StandsAt Sub s lines = IsNew s × (lines ≡ [])
+StandsAt Flow s lines = IsNew s × (lines ≡ sub_said)
+StandsAt Counter s lines = IsNew s × (lines ≡ flow_said s.seed)
+StandsAt (Going phase) s lines = Goes phase s lines
+
+-- these lines came from it
+abbrev pub Gave : ScriptState → List Line → Type 0
+Gave s lines = StandsAt s.stage s lines
+
+-- ---- one line more
+
+-- a datagram arrives
+abbrev pub line_of : Arrival → script.Delivery
+line_of a = record { id = 1; boot = a.boot; number = a.number; at = a.at }
+
+-- how many datagrams the sub-agent has sent in its current boot
+abbrev pub sent_now : List Line → ℕ
+sent_now lines = sent.sent_count lines made_sub (boots_of lines made_sub)
+
+-- the line comes next, in the same run
+pub record Gives (s t : ScriptState) (lines : List Line) (line : Line) : Type 0 where
+  pub written : may_be_written line ≡ true
+  pub follows : may_follow lines line ≡ true
+  pub gave : Gave t (line ∷ lines)
+  pub seed : t.seed ≡ s.seed
+  pub total : t.total ≡ s.total
+
+-- the lines are the whole script of the run of a seed with so many packets
+pub record IsWhole (seed packets : ℕ) (lines : List Line) : Type 0 where
+  pub lawful : AreLawful lines
+  pub history_is : history_of lines ≡ made_history seed packets
+  pub deliveries_are : deliveries_of lines ≡ made_deliveries seed packets
