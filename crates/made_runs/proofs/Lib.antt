@@ -4,3 +4,5 @@ mod Skips
 mod Kept
 mod Accepted
 pub mod Telling
+pub mod Counting
+pub mod Scripting

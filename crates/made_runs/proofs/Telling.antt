@@ -218,7 +218,7 @@ restarts seed at lines m small h =
       deliveries_are = other_deliveries line lines refl ∙ h.deliveries_are;
     }
 
-named_at : (lines : List Line) (a : Arrival) → delivered lines (line_of a) ≡ named_by lines a.boot a.number
+pub named_at : (lines : List Line) (a : Arrival) → delivered lines (line_of a) ≡ named_by lines a.boot a.number
 unfolding delivered
 named_at lines a = refl
 

@@ -88,56 +88,56 @@ abbrev pub sent_count : ℕ → Made → ℕ
 sent_count seed m = length (sent_so_far seed m)
 
 -- where all is decided that was sent
-abbrev pub IsDecided : ScriptState → Made → Type 0
-IsDecided s m = s.decided ≡ sent_count s.seed m
+abbrev pub IsDecided : ℕ → ℕ → Made → Type 0
+IsDecided seed decided m = decided ≡ sent_count seed m
 
--- before the next packet
-pub record BeforePacket (s : ScriptState) (m : Made) : Type 0 where
-  pub more : s.packets < s.total
-  pub is : m ≡ made_until s.seed s.total s.packets
-  pub decided : IsDecided s m
+-- ---- where a run of so many packets is, behind so many of them, where so many datagrams of this boot are decided
 
--- behind the packet that comes behind so many, where something is sent
-pub record BehindPacket (s : ScriptState) : Type 0 where
-  pub before : ℕ
-  pub packets_are : s.packets ≡ suc before
-  pub among : s.packets ≤ s.total
-  pub sent : is_sent s.total s.packets ≡ true
+module _ (seed total packets decided : ℕ) (m : Made) where
+  pub record BeforePacket : Type 0 where
+    pub more : packets < total
+    pub is : m ≡ made_until seed total packets
+    pub decided_all : IsDecided seed decided m
 
-pub record BeforePoll (s : ScriptState) (m : Made) : Type 0 where
-  pub behind : BehindPacket s
-  pub is : m ≡ seen s.seed s.total behind.before
-  pub decided : IsDecided s m
+  pub record BeforePoll : Type 0 where
+    pub before : ℕ
+    pub packets_are : packets ≡ suc before
+    pub sends : is_sent total packets ≡ true
+    pub is : m ≡ seen seed total before
+    pub decided_all : IsDecided seed decided m
 
-pub record BeforeSend (s : ScriptState) (m : Made) : Type 0 where
-  pub behind : BehindPacket s
-  pub is : m ≡ polled_behind s.seed s.total behind.before
-  pub decided : IsDecided s m
+  pub record BeforeSend : Type 0 where
+    pub before : ℕ
+    pub packets_are : packets ≡ suc before
+    pub sends : is_sent total packets ≡ true
+    pub is : m ≡ polled_behind seed total before
+    pub decided_all : IsDecided seed decided m
 
--- what is still to be decided leads to the run behind the send
-pub record Deciding (s : ScriptState) (m : Made) : Type 0 where
-  pub behind : BehindPacket s
-  pub leads : all_decided (boot_number m) (drop s.decided (sent_so_far s.seed m)) m
-      ≡ sent_all s.seed (polled_behind s.seed s.total behind.before)
-  pub most : s.decided ≤ sent_count s.seed m
+  -- what is still to be decided leads to the run behind the send
+  pub record Deciding : Type 0 where
+    pub before : ℕ
+    pub packets_are : packets ≡ suc before
+    pub sends : is_sent total packets ≡ true
+    pub leads : all_decided (boot_number m) (drop decided (sent_so_far seed m)) m ≡ sent_all seed (polled_behind seed total before)
+    pub most : decided ≤ sent_count seed m
 
-pub record BeforeRestart (s : ScriptState) (m : Made) : Type 0 where
-  pub more : s.packets < s.total
-  pub leads : restarted m ≡ made_until s.seed s.total s.packets
-  pub decided : IsDecided s m
-  pub none_held : m.held ≡ None
+  pub record BeforeRestart : Type 0 where
+    pub more : packets < total
+    pub leads : restarted m ≡ made_until seed total packets
+    pub decided_all : IsDecided seed decided m
+    pub none_held : m.held ≡ None
 
-pub record AtEnd (s : ScriptState) (m : Made) : Type 0 where
-  pub is : m ≡ made s.seed s.total
-  pub decided : IsDecided s m
+  pub record AtEnd : Type 0 where
+    pub is : m ≡ made seed total
+    pub decided_all : IsDecided seed decided m
 
-abbrev pub IsAt : Phase → ScriptState → Made → Type 0
-IsAt Packet s m = BeforePacket s m
-IsAt Poll s m = BeforePoll s m
-IsAt Send s m = BeforeSend s m
-IsAt Decide s m = Deciding s m
-IsAt Restart s m = BeforeRestart s m
-IsAt Done s m = AtEnd s m
+abbrev pub IsAt : Phase → ℕ → ℕ → ℕ → ℕ → Made → Type 0
+IsAt Packet seed total packets decided m = BeforePacket seed total packets decided m
+IsAt Poll seed total packets decided m = BeforePoll seed total packets decided m
+IsAt Send seed total packets decided m = BeforeSend seed total packets decided m
+IsAt Decide seed total packets decided m = Deciding seed total packets decided m
+IsAt Restart seed total packets decided m = BeforeRestart seed total packets decided m
+IsAt Done seed total packets decided m = AtEnd seed total packets decided m
 
 -- how many of the 60 lines that a packet gives at most are not used where the script is here
 abbrev pub unused : Phase → ℕ
@@ -151,14 +151,14 @@ unused Done = 0
 -- ---- where the script is
 
 -- the lines have told the run up to what is still due
-pub record Goes (phase : Phase) (s : ScriptState) (lines : List Line) : Type 0 where
+pub record Told (phase : Phase) (s : ScriptState) (lines : List Line) : Type 0 where
   pub now : Made
   pub told : List Delivery
   pub tells : Tells s.seed lines (record now { deliveries = told })
   pub run : StandsFor (named_by lines) s.run now
   pub short : IsShort now
   pub due : Adds (named_by lines) (arrived s.due) told now.deliveries
-  pub at : IsAt phase s now
+  pub at : IsAt phase s.seed s.total s.packets s.decided now
   pub few : length lines + length (arrived s.due) + 3 * sent_count s.seed now + unused phase ≤ 3 + 60 * s.packets + 3 * s.decided
   pub total : s.packets ≤ s.total
   pub most : s.total ≤ 10000000
@@ -176,7 +176,7 @@ abbrev pub StandsAt : Stage → ScriptState → List Line → Type 0
 StandsAt Sub s lines = IsNew s × (lines ≡ [])
 StandsAt Flow s lines = IsNew s × (lines ≡ sub_said)
 StandsAt Counter s lines = IsNew s × (lines ≡ flow_said s.seed)
-StandsAt (Going phase) s lines = Goes phase s lines
+StandsAt (Going phase) s lines = Told phase s lines
 
 -- these lines came from it
 abbrev pub Gave : ScriptState → List Line → Type 0

@@ -6,7 +6,7 @@ ghost use Rattle.script_lines.specs.Shown.{shown};
 ghost use Rattle.script_laws.specs.Written.{may_be_written};
 ghost use Rattle.trial_spec.specs.Made as made;
 ghost use Rattle.made_runs.specs.Packets.{packet_as};
-ghost use Rattle.made_runs.specs.Scripts.{Gave, Gives, Goes, IsWhole, line_of, made_sub, nothing_due, port, sent_now};
+ghost use Rattle.made_runs.specs.Scripts.{Gave, Gives, Told, IsWhole, line_of, made_sub, nothing_due, port, sent_now};
 ghost use Rattle.made_runs.specs.declared.script.Phase.TheVariants as phases;
 ghost use Rattle.made_runs.specs.declared.script.Stage.TheVariants.{Going};
 
@@ -137,9 +137,9 @@ impl MadeScript {
     // What is due comes first.
     fn go_on(&mut self, phase: Phase, sent: u64) -> Option<ScriptLine>
         requires stage { self.old.stage ≡ Going phase }
-        ensures some { IfSome result (λ line. (lines : List Line) → Goes phase self.old lines → sent ≡ sent_now lines
+        ensures some { IfSome result (λ line. (lines : List Line) → Told phase self.old lines → sent ≡ sent_now lines
             → Gives self.old self.new lines (shown line)) }
-        ensures none { IfNone result ((lines : List Line) → Goes phase self.old lines → sent ≡ sent_now lines
+        ensures none { IfNone result ((lines : List Line) → Told phase self.old lines → sent ≡ sent_now lines
             → IsWhole self.old.seed self.old.total lines) }
     {
         if let Some(line) = self.due_line() {
@@ -158,7 +158,7 @@ impl MadeScript {
     // The line of the first arrival that is due.
     fn due_line(&mut self) -> Option<ScriptLine>
         ensures some { IfSome result (λ line. (phase : Phase) (lines : List Line) → self.old.stage ≡ Going phase
-            → Goes phase self.old lines → Gives self.old self.new lines (shown line)) }
+            → Told phase self.old lines → Gives self.old self.new lines (shown line)) }
         ensures none { IfNone result ((self.new ≡ self.old) × (self.old.due ≡ nothing_due)) }
     {
         if let Some(arrival) = self.due.first {
@@ -178,7 +178,7 @@ impl MadeScript {
 
     // The next packet.
     fn packet_line(&mut self) -> ScriptLine
-        ensures { (lines : List Line) → Goes phases.Packet self.old lines → self.old.due ≡ nothing_due
+        ensures { (lines : List Line) → Told phases.Packet self.old lines → self.old.due ≡ nothing_due
             → Gives self.old self.new lines (shown result) }
     {
         let packet = self.run.packet();
@@ -192,7 +192,7 @@ impl MadeScript {
     }
 
     fn poll_line(&mut self) -> ScriptLine
-        ensures { (lines : List Line) → Goes phases.Poll self.old lines → self.old.due ≡ nothing_due
+        ensures { (lines : List Line) → Told phases.Poll self.old lines → self.old.due ≡ nothing_due
             → Gives self.old self.new lines (shown result) }
     {
         self.stage = Stage::Going(Phase::Send);
@@ -203,7 +203,7 @@ impl MadeScript {
     }
 
     fn send_line(&mut self) -> ScriptLine
-        ensures { (lines : List Line) → Goes phases.Send self.old lines → self.old.due ≡ nothing_due
+        ensures { (lines : List Line) → Told phases.Send self.old lines → self.old.due ≡ nothing_due
             → Gives self.old self.new lines (shown result) }
     {
         self.stage = Stage::Going(Phase::Decide);
@@ -217,9 +217,9 @@ impl MadeScript {
     fn decided_line(&mut self, sent: u64) -> Option<ScriptLine>
         requires stage { self.old.stage ≡ Going phases.Decide }
         requires none_due { self.old.due ≡ nothing_due }
-        ensures some { IfSome result (λ line. (lines : List Line) → Goes phases.Decide self.old lines → sent ≡ sent_now lines
+        ensures some { IfSome result (λ line. (lines : List Line) → Told phases.Decide self.old lines → sent ≡ sent_now lines
             → Gives self.old self.new lines (shown line)) }
-        ensures none { IfNone result ((lines : List Line) → Goes phases.Decide self.old lines → sent ≡ sent_now lines
+        ensures none { IfNone result ((lines : List Line) → Told phases.Decide self.old lines → sent ≡ sent_now lines
             → IsWhole self.old.seed self.old.total lines) }
     {
         for number in self.decided..sent {
@@ -234,9 +234,9 @@ impl MadeScript {
 
     // What comes behind all that was sent.
     fn line_behind(&mut self) -> Option<ScriptLine>
-        ensures some { IfSome result (λ line. (lines : List Line) → Goes phases.Decide self.old lines
+        ensures some { IfSome result (λ line. (lines : List Line) → Told phases.Decide self.old lines
             → self.old.due ≡ nothing_due → self.old.decided ≡ sent_now lines → Gives self.old self.new lines (shown line)) }
-        ensures none { IfNone result ((lines : List Line) → Goes phases.Decide self.old lines
+        ensures none { IfNone result ((lines : List Line) → Told phases.Decide self.old lines
             → self.old.due ≡ nothing_due → self.old.decided ≡ sent_now lines → IsWhole self.old.seed self.old.total lines) }
     {
         if is_last_of_boot(self.total, self.packets) {
@@ -250,7 +250,7 @@ impl MadeScript {
 
     // The boot ends: what is held arrives, and then the next one begins.
     fn boot_line(&mut self) -> ScriptLine
-        ensures { (lines : List Line) → Goes phases.Decide self.old lines → self.old.due ≡ nothing_due
+        ensures { (lines : List Line) → Told phases.Decide self.old lines → self.old.due ≡ nothing_due
             → self.old.decided ≡ sent_now lines → made.is_last_of_boot self.old.total self.old.packets ≡ true
             → Gives self.old self.new lines (shown result) }
     {
@@ -264,10 +264,10 @@ impl MadeScript {
 
     // The run ends: what is held arrives.
     fn last_line(&mut self) -> Option<ScriptLine>
-        ensures some { IfSome result (λ line. (lines : List Line) → Goes phases.Decide self.old lines
+        ensures some { IfSome result (λ line. (lines : List Line) → Told phases.Decide self.old lines
             → self.old.due ≡ nothing_due → self.old.decided ≡ sent_now lines → self.old.packets ≡ self.old.total
             → Gives self.old self.new lines (shown line)) }
-        ensures none { IfNone result ((lines : List Line) → Goes phases.Decide self.old lines
+        ensures none { IfNone result ((lines : List Line) → Told phases.Decide self.old lines
             → self.old.due ≡ nothing_due → self.old.decided ≡ sent_now lines → self.old.packets ≡ self.old.total
             → IsWhole self.old.seed self.old.total lines) }
     {
@@ -277,7 +277,7 @@ impl MadeScript {
     }
 
     fn restart_line(&mut self) -> ScriptLine
-        ensures { (lines : List Line) → Goes phases.Restart self.old lines → self.old.due ≡ nothing_due
+        ensures { (lines : List Line) → Told phases.Restart self.old lines → self.old.due ≡ nothing_due
             → Gives self.old self.new lines (shown result) }
     {
         self.run.begin_boot();
