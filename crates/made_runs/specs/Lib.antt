@@ -1,3 +1,4 @@
 pub mod Packets
 pub mod Setups
 pub mod Runs
+pub mod Scripts

@@ -8,12 +8,14 @@ pub mod laws;
 mod packets;
 pub mod rows;
 mod run;
+mod script;
 mod setups;
 mod turns;
 
 pub use arrivals::{Arrival, Arrivals};
 pub use packets::MadePacket;
 pub use run::MadeRun;
+pub use script::MadeScript;
 pub use setups::setup;
 pub use turns::{is_last_of_boot, is_sent};
 

@@ -215,7 +215,7 @@ impl MadeRun {
     }
 
     // A minute after the uptime of this boot the next one begins.
-    fn begin_boot(&mut self)
+    pub(crate) fn begin_boot(&mut self)
         ensures { (names : Naming) (m : Made) → IsShort m → StandsFor names self.old m → self.old.held ≡ None
             → StandsFor names self.new (restarted m) }
     {

@@ -27,7 +27,7 @@ fn skips(alloc: Global, seed: u64) -> Result<Vec<u32>, AllocError>
 }
 
 // They are at least 1 each, so that they are skip numbers.
-fn drawn_skips(alloc: Global, seed: u64) -> Result<Skips, AllocError>
+pub(crate) fn drawn_skips(alloc: Global, seed: u64) -> Result<Skips, AllocError>
     ensures { IfOk result (λ s. s ≡ (made_flow seed).skips) }
 {
     let numbers = skips(alloc, seed)?;

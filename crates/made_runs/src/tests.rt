@@ -1,5 +1,6 @@
-use crate::{Arrival, MadeRun, is_last_of_boot, is_sent, setup};
+use crate::{Arrival, MadeRun, MadeScript, is_last_of_boot, is_sent, setup};
 use data_format::Address;
+use script_lines::ScriptLine;
 use std::alloc::{AllocError, Global};
 
 /// How many packets the run has.
@@ -52,6 +53,73 @@ fn each_way_to_arrive(rt: HostRuntime) -> Result<(), AllocError> {
         arrival(2, 4, 1_062_596),
     ];
     assert!(rt; all.as_slice() == wanted.as_slice());
+    Ok(())
+}
+
+// What the lines of a script say, each kind counted, where each send is of one datagram.
+#[derive(Drop)]
+struct LinesSaid {
+    packets: u32,
+    polls: u32,
+    sends: u32,
+    restarts: u32,
+    arrivals: Vec<Option<Arrival>>,
+}
+
+fn lines_of_run(alloc: Global, seed: u64) -> Result<LinesSaid, AllocError> {
+    let mut script = MadeScript::begin(seed, TOTAL);
+    let mut sent = 0u64;
+    let mut said = LinesSaid {
+        packets: 0,
+        polls: 0,
+        sends: 0,
+        restarts: 0,
+        arrivals: Vec::new(alloc),
+    };
+    for _ in 0..400 {
+        let Some(line) = script.next(alloc, sent)? else {
+            return Ok(said);
+        };
+        match line {
+            ScriptLine::Packet { .. } => said.packets = said.packets.wrapping_add(1),
+            ScriptLine::Poll { .. } => said.polls = said.polls.wrapping_add(1),
+            ScriptLine::Send { .. } => {
+                sent = sent.wrapping_add(1);
+                said.sends = said.sends.wrapping_add(1);
+            }
+            ScriptLine::Restart { .. } => {
+                sent = 0;
+                said.restarts = said.restarts.wrapping_add(1);
+            }
+            ScriptLine::Deliver {
+                boot,
+                number,
+                at,
+                ..
+            } => said.arrivals.push(arrival(boot, number, at))?,
+            _ => {}
+        }
+    }
+    Ok(said)
+}
+
+// The script says what happens, and then it ends: its `deliver` lines are the arrivals above.
+#[test]
+fn the_script_says_what_arrives(rt: HostRuntime) -> Result<(), AllocError> {
+    let alloc = rt.alloc();
+    let said = lines_of_run(alloc, 20_999)?;
+    let wanted = [
+        arrival(1, 1, 1_000_329),
+        arrival(1, 2, 1_000_666),
+        arrival(1, 3, 1_000_981),
+        arrival(1, 4, 1_001_324),
+        arrival(2, 1, 1_061_948),
+        arrival(2, 3, 1_062_253),
+        arrival(2, 3, 1_062_281),
+        arrival(2, 4, 1_062_596),
+    ];
+    assert!(rt; said.packets == 256 && said.polls == 8 && said.sends == 8 && said.restarts == 1);
+    assert!(rt; said.arrivals.as_slice() == wanted.as_slice());
     Ok(())
 }
 

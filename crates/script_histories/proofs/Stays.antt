@@ -15,7 +15,7 @@ use Rattle.script_histories.proofs.Lists.{Found, found, turned, at_front, at_las
 
 -- ---- events
 
-packet_sends : (s : Setup) (f : FlowSetup) (turn : Turn) (packet : Packet) (b : Boot)
+pub packet_sends : (s : Setup) (f : FlowSetup) (turn : Turn) (packet : Packet) (b : Boot)
     → (after_packet s f turn packet b).sent ≡ b.sent
 packet_sends s f turn packet b = go (is_marked f.skips (1 + seen_in turn b)) (nat_lt (length b.staged) s.stage)
   where
@@ -25,7 +25,7 @@ packet_sends s f turn packet b = go (is_marked f.skips (1 + seen_in turn b)) (na
     go true false = refl
     go false r = refl
 
-poll_sends : (now : ℕ) (before : List Event) (due : List CounterSetup) (readings : List Tree) (b : Boot)
+pub poll_sends : (now : ℕ) (before : List Event) (due : List CounterSetup) (readings : List Tree) (b : Boot)
     → (after_poll now before due readings b).sent ≡ b.sent
 poll_sends now before [] readings b = refl
 poll_sends now before (c ∷ due) [] b = refl
