@@ -102,6 +102,8 @@ done
 for seed in $(seq "$seeds"); do
   python3 compare/scripts.py "$seed" 500 ./sflow || status=1
   python3 compare/trial.py --compare "$seed" 300 ./sflow || status=1
+  trial /dev/null --made "$seed" --packets 100000
+  trial /dev/null --made "$seed" --packets "$seed" --interfaces
   for script in $(seq $((25 * seed - 24)) $((25 * seed))); do
     python3 compare/make_script.py "$script" > "$folder/script-$script"
     trial "$folder/script-$script"

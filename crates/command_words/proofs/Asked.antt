@@ -5,13 +5,14 @@ use Rattle.std.specs.List.{list_all}
 use Rattle.books_spec.specs.declared.limits.Limits.{Limits}
 use Rattle.command_words.specs.declared.arguments.CommandName.{CommandName}
 use Rattle.command_words.specs.declared.arguments.CommandName.TheVariants as name
-use Rattle.command_words.specs.declared.collection.Collection.{Collection}
-use Rattle.command_words.specs.declared.command.Command.TheVariants.{Replay, Collect, Relay, Trial}
+use Rattle.command_words.specs.declared.command.Command.TheVariants.{Replay, Collect, Relay}
 use Rattle.command_words.specs.Rules.{Text, Rule}
 use Rattle.command_words.specs.Pieces.{Piece}
 use Rattle.command_words.specs.Reading.{counted, is_counted, lawful_pieces, pieces_from}
 use Rattle.command_words.specs.Limits.{LimitTexts}
-use Rattle.command_words.specs.Commands.{collection_of, collection_with, command_named, command_with, interfaces_of, limits_of, relay_of, routes_of, rules_of, trial_of, turns_of}
+use Rattle.command_words.specs.Commands.{collection_of, collection_with, command_named, command_with, interfaces_of, limits_of, relay_of, routes_of, rules_of, run_of, trial_of, trial_with, turns_of}
+use Rattle.command_words.specs.declared.trial_runs.Run.{Run}
+use Rattle.command_words.proofs.Given.{both_there}
 use Rattle.relay_out.specs.Routes.{Route}
 
 pub same_texts : {streams sources datagram_width sample_width boot_slack streams-2 sources-2 datagram_width-2 sample_width-2 boot_slack-2 : Option Text}
@@ -39,12 +40,9 @@ is_mapped : {X Y : Type 0} (f : X → Y) (o : Option X) → is_some o ≡ is_som
 is_mapped f None = refl
 is_mapped f (Some x) = refl
 
--- limits make what `replay` and `trial` are asked for, and what is collected makes what `collect` is
+-- limits make what `replay` is asked for, and what is collected makes what `collect` is
 pub replay_test : (pieces : List Piece) → is_some (limits_of pieces) ≡ is_some (command_with name.Replay pieces)
 replay_test pieces = is_mapped (λ limits. Replay limits (interfaces_of pieces)) (limits_of pieces)
-
-pub trial_test : (pieces : List Piece) → is_some (limits_of pieces) ≡ is_some (trial_of pieces)
-trial_test pieces = is_mapped (λ limits. Trial limits (interfaces_of pieces)) (limits_of pieces)
 
 pub collect_test : (pieces : List Piece) → is_some (collection_of pieces) ≡ is_some (command_with name.Collect pieces)
 collect_test pieces = is_mapped (λ asked. Collect asked) (collection_of pieces)
@@ -53,25 +51,22 @@ collect_test pieces = is_mapped (λ asked. Collect asked) (collection_of pieces)
 pub both_asked : (l : Option Limits) (t : Option ℕ) (pieces : List Piece) → l ≡ limits_of pieces → t ≡ turns_of pieces
     → (is_some l && is_some t) ≡ is_some (collection_of pieces)
 both_asked l t pieces limits turns =
-    go l t ∙ ap₂ (λ k u. is_some (option_and_then (λ m. option_map (collection_with pieces m) u) k)) limits turns
-  where
-    go : (k : Option Limits) (u : Option ℕ)
-        → (is_some k && is_some u) ≡ is_some (option_and_then (λ m. option_map (collection_with pieces m) u) k)
-    go None u = refl
-    go (Some m) None = refl
-    go (Some m) (Some n) = refl
+    both_there (collection_with pieces) l t
+    ∙ ap₂ (λ k u. is_some (option_and_then (λ m. option_map (collection_with pieces m) u) k)) limits turns
+
+-- the limits and what it runs make what `trial` is asked for
+pub trial_parts : (l : Option Limits) (r : Option Run) (pieces : List Piece) → l ≡ limits_of pieces → r ≡ run_of pieces
+    → (is_some l && is_some r) ≡ is_some (trial_of pieces)
+trial_parts l r pieces limits run =
+    both_there (λ m. trial_with m (interfaces_of pieces)) l r
+    ∙ ap₂ (λ k u. is_some (option_and_then (λ m. option_map (trial_with m (interfaces_of pieces)) u) k)) limits run
 
 -- these and the routes make what `relay` is asked for
 pub relay_parts : (b : Bool) (r : Option (List Route)) (pieces : List Piece) → b ≡ is_some (collection_of pieces)
     → r ≡ routes_of pieces → (b && is_some r) ≡ is_some (relay_of pieces)
 relay_parts b r pieces collects routes =
-    ap₂ (λ x o. x && is_some o) collects routes ∙ go (collection_of pieces) (routes_of pieces)
-  where
-    go : (k : Option Collection) (u : Option (List Route))
-        → (is_some k && is_some u) ≡ is_some (option_and_then (λ asked. option_map (λ routes. Relay asked routes) u) k)
-    go None u = refl
-    go (Some asked) None = refl
-    go (Some asked) (Some routes) = refl
+    ap₂ (λ x o. x && is_some o) collects routes
+    ∙ both_there (λ asked routes. Relay asked routes) (collection_of pieces) (routes_of pieces)
 
 -- lawful words ask for the command of a name where their pieces do
 pub pieces_ask : (kind command : CommandName) (words : List Text) (rules : List Rule) (b : Bool)

@@ -7,6 +7,7 @@ pub mod LawfulReading
 pub mod ClapRows
 pub mod ClapWalk
 pub mod ClapTakes
+pub mod Given
 pub mod Asked
 pub mod CommandReading
 pub mod Texts

@@ -10,16 +10,24 @@ use Rattle.command_words.specs.declared.arguments.CommandName.{CommandName}
 use Rattle.command_words.specs.declared.arguments.CommandName.TheVariants as name
 use Rattle.command_words.specs.declared.collection.Collection.{Collection}
 use Rattle.command_words.specs.declared.command.Command.{Command}
-use Rattle.command_words.specs.declared.command.Command.TheVariants.{Replay, Collect, Relay, Trial}
+use Rattle.command_words.specs.declared.command.Command.TheVariants.{Replay, Collect, Relay}
+use Rattle.command_words.specs.declared.trial_runs.Run.{Run}
+use Rattle.command_words.specs.declared.trial_runs.Run.TheVariants.{Script, Made}
 use Rattle.command_words.specs.Rules.{Rule, Text}
 use Rattle.command_words.specs.Pieces.{Piece}
 use Rattle.command_words.specs.Reading.{lawful_pieces, pieces_from}
-use Rattle.command_words.specs.Commands.{collection_of, command_named, command_with, interfaces_of, limits_of, receivers_needed, route_count_of, routes_of, rules_of, with_receivers}
+use Rattle.command_words.specs.Commands.{collection_of, command_named, command_with, interfaces_of, limits_of, receivers_needed, route_count_of, routes_of, rules_of, run_of, trial_under, trial_with, with_receivers}
 use Rattle.command_words.proofs.Asked.{lawful_made}
+use Rattle.command_words.proofs.Given.{from_map, from_step}
 
 abbrev needed : CommandName → List Piece → ℕ
 needed name.Relay pieces = route_count_of pieces
 needed _ pieces = 0
+
+trial_needs : (limits : Limits) (interfaces : Bool) (run : Run)
+    → 0 ≡ receivers_needed (trial_with limits interfaces run)
+trial_needs limits interfaces Script = refl
+trial_needs limits interfaces (Made seed packets) = refl
 
 needs : (command : CommandName) (pieces : List Piece) (c : Command) → command_with command pieces ≡ Some c
     → needed command pieces ≡ receivers_needed c
@@ -28,11 +36,10 @@ needs name.Replay pieces c e = go (limits_of pieces) e
     go : (o : Option Limits) → option_map (λ limits. Replay limits (interfaces_of pieces)) o ≡ Some c → 0 ≡ receivers_needed c
     go None e = cc
     go (Some limits) e = ap receivers_needed (same_Some _ _ e)
-needs name.Trial pieces c e = go (limits_of pieces) e
-  where
-    go : (o : Option Limits) → option_map (λ limits. Trial limits (interfaces_of pieces)) o ≡ Some c → 0 ≡ receivers_needed c
-    go None e = cc
-    go (Some limits) e = ap receivers_needed (same_Some _ _ e)
+needs name.Trial pieces c e =
+    from_step (λ d. 0 ≡ receivers_needed d) (trial_under pieces) (limits_of pieces) c
+    (λ limits _. from_map (λ d. 0 ≡ receivers_needed d) (trial_with limits (interfaces_of pieces)) (run_of pieces) c
+    (λ run _. trial_needs limits (interfaces_of pieces) run)) e
 needs name.Collect pieces c e = go (collection_of pieces) e
   where
     go : (o : Option Collection) → option_map (λ asked. Collect asked) o ≡ Some c → 0 ≡ receivers_needed c

@@ -13,13 +13,16 @@ use Rattle.command_words.specs.declared.command.CanonVersion.{CanonVersion}
 use Rattle.command_words.specs.declared.command.CanonVersion.TheVariants as canon
 use Rattle.command_words.specs.declared.collection.Collection.{Collection}
 use Rattle.command_words.specs.declared.command.Command.{Command}
-use Rattle.command_words.specs.declared.command.Command.TheVariants.{Replay, Show, Check, Canon, Pcap, Collect, Send, Relay, Agent, Trial}
+use Rattle.command_words.specs.declared.command.Command.TheVariants.{Replay, Show, Check, Canon, Pcap, Collect, Send, Relay, Agent, Trial, TrialMade}
 use Rattle.relay_out.specs.Routes.{Route}
 use Rattle.command_words.specs.Rules.{Text, Rule}
 use Rattle.books_spec.specs.declared.limits.Limits.{Limits}
 use Rattle.command_words.specs.Pieces.{Piece, AreLawful, count_of, spelling, text_of}
 use Rattle.command_words.specs.Limits.{limits_asked, texts_by}
 use Rattle.command_words.specs.Collections.{place_or, routes_asked, turns_asked}
+use Rattle.command_words.specs.declared.trial_runs.Run.{Run}
+use Rattle.command_words.specs.declared.trial_runs.Run.TheVariants.{Script, Made}
+use Rattle.command_words.specs.Runs.{IsRunLength, run_asked}
 use Rattle.books_spec.specs.Limits.{AreLawful as AreWithin}
 use Rattle.command_words.specs.Reading.{lawful_pieces}
 
@@ -80,17 +83,34 @@ relay_under pieces asked = option_map (λ routes. Relay asked routes) (routes_of
 abbrev pub relay_of : List Piece → Option Command
 relay_of pieces = option_and_then (relay_under pieces) (collection_of pieces)
 
+-- what `trial` runs
+abbrev pub run_of : List Piece → Option Run
+run_of pieces = run_asked (text_of (codes "made") pieces) (text_of (codes "packets") pieces)
+
 -- what `trial` is asked for
+abbrev pub trial_with : Limits → Bool → Run → Command
+trial_with limits interfaces Script = Trial limits interfaces
+trial_with limits interfaces (Made seed packets) = TrialMade limits interfaces seed packets
+
+abbrev pub trial_under : List Piece → Limits → Option Command
+trial_under pieces limits = option_map (trial_with limits (interfaces_of pieces)) (run_of pieces)
+
 abbrev pub trial_of : List Piece → Option Command
-trial_of pieces = option_map (λ limits. Trial limits (interfaces_of pieces)) (limits_of pieces)
+trial_of pieces = option_and_then (trial_under pieces) (limits_of pieces)
 
 -- the limits of a command, where it has some, are within their ranges
 abbrev pub HasLawfulLimits : Command → Type 0
 HasLawfulLimits (Replay limits interfaces) = AreWithin limits
 HasLawfulLimits (Trial limits interfaces) = AreWithin limits
+HasLawfulLimits (TrialMade limits interfaces seed packets) = AreWithin limits
 HasLawfulLimits (Collect asked) = AreWithin asked.limits
 HasLawfulLimits (Relay asked routes) = AreWithin asked.limits
 HasLawfulLimits _ = Unit {0}
+
+-- a made run has as many packets as it may have
+abbrev pub HasLawfulLength : Command → Type 0
+HasLawfulLength (TrialMade limits interfaces seed packets) = IsRunLength packets
+HasLawfulLength _ = Unit {0}
 
 -- a command: its first word, its options and flags, and what it is with the values of its pieces, or None where one of
 -- them is out of its range
@@ -175,7 +195,15 @@ abbrev pub agent_row : CommandRow
 agent_row = record { word = codes "agent"; rules = []; gives = λ pieces. Some Agent }
 
 abbrev pub trial_row : CommandRow
-trial_row = record { word = codes "trial"; rules = with_limits []; gives = trial_of }
+trial_row = record {
+  word = codes "trial";
+  rules =
+      with_limits (
+      record { name = codes "made"; form = Optional }
+      ∷ record { name = codes "packets"; form = Optional }
+      ∷ []);
+  gives = trial_of;
+}
 
 abbrev pub row_of : CommandName → CommandRow
 row_of name.Replay = replay_row

@@ -5,6 +5,7 @@ pub mod Arguments
 pub mod Numbers
 pub mod Limits
 pub mod Collections
+pub mod Runs
 pub mod Commands
 pub mod Meanings
 pub mod Matching

@@ -13,7 +13,13 @@ has_leading_zero text = nat_lt 1 (length text) && slice_index text 0 == 48
 abbrev pub is_numeral : Text → Bool
 is_numeral text = nat_lt 0 (length text) && (not (has_leading_zero text) && list_all is_ascii_digit text)
 
--- the number of 32 bits that the text writes
+-- the number of so many bits that the text writes
+abbrev pub number_of : ℕ → Text → Option ℕ
+number_of bits text =
+    if is_numeral text && nat_lt (digits_value 10 text) (2 ^ bits) then Some (digits_value 10 text) else None
+
 abbrev pub number_in : Text → Option ℕ
-number_in text =
-    if is_numeral text && nat_lt (digits_value 10 text) (2 ^ 32) then Some (digits_value 10 text) else None
+number_in text = number_of 32 text
+
+abbrev pub wide_number_in : Text → Option ℕ
+wide_number_in text = number_of 64 text

@@ -38,7 +38,7 @@ pub enum CommandName {
 
 static NONE: [Argument; 0] = [];
 
-// The options that set the limits of a collector, and the flag for the lines of interfaces: those of `replay` and `trial`.
+// The options that set the limits of a collector, and the flag for the lines of interfaces.
 static REPLAY: [Argument; 6] = [
     Argument {
         name: "streams",
@@ -162,6 +162,42 @@ static RELAY: [Argument; 9] = [
     },
 ];
 
+// Those of `replay`, and the seed and the number of packets of a made run.
+static TRIAL: [Argument; 8] = [
+    Argument {
+        name: "streams",
+        form: Form::Optional,
+    },
+    Argument {
+        name: "sources",
+        form: Form::Optional,
+    },
+    Argument {
+        name: "datagram-width",
+        form: Form::Optional,
+    },
+    Argument {
+        name: "sample-width",
+        form: Form::Optional,
+    },
+    Argument {
+        name: "boot-slack",
+        form: Form::Optional,
+    },
+    Argument {
+        name: "interfaces",
+        form: Form::Flag,
+    },
+    Argument {
+        name: "made",
+        form: Form::Optional,
+    },
+    Argument {
+        name: "packets",
+        form: Form::Optional,
+    },
+];
+
 impl CommandName {
     // The command of this name.
     pub(crate) fn named(word: &str) -> Option<CommandName>
@@ -205,7 +241,7 @@ impl CommandName {
     {
         match self {
             CommandName::Replay => &REPLAY,
-            CommandName::Trial => &REPLAY,
+            CommandName::Trial => &TRIAL,
             CommandName::Check => &CHECK,
             CommandName::Pcap => &PCAP,
             CommandName::Canon => &CANON,

@@ -10,6 +10,7 @@ use crate::arguments::{Argument, CommandName};
 use crate::collection::{routes_in, turns_in};
 use crate::limits::LimitTexts;
 use crate::reading::{are_lawful, text};
+use crate::trial_runs::Run;
 
 // Whether the limits and the number of receives are within their ranges.
 fn can_collect(arguments: &[Argument], words: &[String]) -> bool
@@ -30,13 +31,18 @@ fn can_relay(arguments: &[Argument], words: &[String]) -> bool
     can_collect(arguments, words) && routes_in(text(arguments, words, "routes")).is_some()
 }
 
-// Whether the limits of `trial` are within their ranges.
+// Whether the limits of `trial` are within their ranges, and its texts say what it runs.
 fn can_try(arguments: &[Argument], words: &[String]) -> bool
     ensures { (pieces : List Piece)
         → pieces_from (rules_in arguments.now) None (map string_bytes words.now) ≡ Some pieces
         → result ≡ is_some (trial_of pieces) }
 {
     LimitTexts::in_words(arguments, words).limits().is_some()
+        && Run::asked(
+            text(arguments, words, "made"),
+            text(arguments, words, "packets"),
+        )
+        .is_some()
 }
 
 // How many routes the words say; none where they say no routes.

@@ -1,9 +1,10 @@
 ghost use Rattle.std.specs.Prelude.{◌≡◌, ◌≤◌, ◌↔◌, Bool, List, codes, if◌then◌else◌, IfOk, None, Some, Err, map, string_bytes};
 ghost use Rattle.clap.specs.Words.{found_of, kind_of, one_text};
-ghost use Rattle.command_words.specs.Commands.{HasLawfulLimits, collection_of, command_for, command_with, listen_of, named_for, receivers_needed, relay_of, rules_of, to_of, trial_of};
+ghost use Rattle.command_words.specs.Commands.{HasLawfulLength, HasLawfulLimits, collection_of, command_for, command_with, limits_of, listen_of, named_for, receivers_needed, relay_of, rules_of, run_of, to_of, trial_of, trial_with, with_limits};
 ghost use Rattle.command_words.specs.declared.arguments.CommandName.TheVariants as name_is;
 ghost use Rattle.command_words.specs.Matching.{Holds};
 ghost use Rattle.command_words.specs.Pieces.{Piece};
+ghost use Rattle.command_words.specs.Rules.{Rule};
 
 use crate::arguments::CommandName;
 use crate::asking::asks_for;
@@ -11,6 +12,7 @@ use crate::collection::{Collection, routes_in, turns_in};
 use crate::limits::LimitTexts;
 use crate::matching::matches_in;
 use crate::place::Place;
+use crate::trial_runs::Run;
 use capture_spec::PcapOutput;
 use clap::error::ErrorKind;
 use clap::{ArgMatches, Error};
@@ -62,6 +64,13 @@ pub enum Command<'a> {
     Trial {
         limits: Limits,
         interfaces: bool,
+    },
+    /// Reads nothing, and does the same with the run that is made from a seed, of 1 to 10,000,000 packets.
+    TrialMade {
+        limits: Limits,
+        interfaces: bool,
+        seed: u64,
+        packets: u32,
     },
 }
 
@@ -145,6 +154,14 @@ fn output_in(matches: &ArgMatches) -> PcapOutput
     }
 }
 
+// The limits of a collector.
+fn limits_in(matches: &ArgMatches) -> Option<Limits>
+    ensures { (more : List Rule) (pieces : List Piece) → Holds (found_of matches.now) (with_limits more) pieces
+        → result ≡ limits_of pieces }
+{
+    LimitTexts::in_matches(matches).limits()
+}
+
 // Where the link listens.
 fn listen_in<'a>(matches: &ArgMatches<'a>) -> Place<'a>
     ensures collect { (pieces : List Piece) → Holds (found_of matches.now) (rules_of name_is.Collect) pieces
@@ -170,7 +187,7 @@ fn collection_in<'a>(matches: &ArgMatches<'a>) -> Option<Collection<'a>>
     ensures relay { (pieces : List Piece) → Holds (found_of matches.now) (rules_of name_is.Relay) pieces
         → result ≡ collection_of pieces }
 {
-    let Some(limits) = LimitTexts::in_matches(matches).limits() else {
+    let Some(limits) = limits_in(matches) else {
         return None;
     };
     let Some(turns) = turns_in(matches.get_str("turns")) else {
@@ -198,18 +215,41 @@ fn relay_in<'a>(matches: &ArgMatches<'a>) -> Option<Command<'a>>
     Some(Command::Relay { asked, routes })
 }
 
+// What `trial` runs.
+fn run_in(matches: &ArgMatches) -> Option<Run>
+    ensures { (pieces : List Piece) → Holds (found_of matches.now) (rules_of name_is.Trial) pieces
+        → result ≡ run_of pieces }
+{
+    Run::asked(matches.get_str("made"), matches.get_str("packets"))
+}
+
+// What `trial` does with what it runs.
+fn trial_over<'a>(limits: Limits, interfaces: bool, run: Run) -> Command<'a>
+    ensures { result ≡ trial_with limits interfaces run }
+{
+    match run {
+        Run::Script => Command::Trial { limits, interfaces },
+        Run::Made { seed, packets } => Command::TrialMade {
+            limits,
+            interfaces,
+            seed,
+            packets,
+        },
+    }
+}
+
 // What `trial` is asked for.
 fn trial_in<'a>(matches: &ArgMatches<'a>) -> Option<Command<'a>>
     ensures { (pieces : List Piece) → Holds (found_of matches.now) (rules_of name_is.Trial) pieces
         → result ≡ trial_of pieces }
 {
-    match LimitTexts::in_matches(matches).limits() {
-        Some(limits) => Some(Command::Trial {
-            limits,
-            interfaces: interfaces_in(matches),
-        }),
-        None => None,
-    }
+    let Some(limits) = limits_in(matches) else {
+        return None;
+    };
+    let Some(run) = run_in(matches) else {
+        return None;
+    };
+    Some(trial_over(limits, interfaces_in(matches), run))
 }
 
 // The command of this name, from what `clap` has read.
@@ -219,7 +259,7 @@ fn command_in<'a>(name: CommandName, matches: &ArgMatches<'a>) -> Option<Command
 {
     match name {
         CommandName::Replay => {
-            let Some(limits) = LimitTexts::in_matches(matches).limits() else {
+            let Some(limits) = limits_in(matches) else {
                 return None;
             };
             Some(Command::Replay {
@@ -258,6 +298,7 @@ fn read_command<'a>(
     ensures usage { (result ≡ Err WordsRefusal.Usage) ↔ (named_for receivers (map string_bytes words.entry.now) name ≡ None) }
     ensures command { IfOk result (λ c. named_for receivers (map string_bytes words.entry.now) name ≡ Some c) }
     ensures lawful { IfOk result (λ c. HasLawfulLimits c) }
+    ensures length { IfOk result (λ c. HasLawfulLength c) }
     ensures enough { IfOk result (λ c. receivers_needed c ≤ receivers) }
 {
     if !asks_for(name, words, receivers) {
@@ -283,6 +324,7 @@ pub fn read_words<'a>(
     ensures usage { (result ≡ Err WordsRefusal.Usage) ↔ (command_for receivers (map string_bytes words.entry.now) ≡ None) }
     ensures command { IfOk result (λ c. command_for receivers (map string_bytes words.entry.now) ≡ Some c) }
     ensures lawful { IfOk result (λ c. HasLawfulLimits c) }
+    ensures length { IfOk result (λ c. HasLawfulLength c) }
     ensures enough { IfOk result (λ c. receivers_needed c ≤ receivers) }
 {
     match words {

@@ -5,8 +5,8 @@ ghost use Rattle.command_words.specs.declared.command.Command.{Command};
 ghost use Rattle.command_words.specs.Rules.{Rule};
 ghost use Rattle.command_words.specs.Pieces.{Piece, AreLawful, Spell, are_rules};
 ghost use Rattle.command_words.specs.Reading.{lawful_pieces};
-ghost use Rattle.command_words.specs.Numbers.{number_in};
-ghost use Rattle.command_words.specs.Commands.{Asks, HasLawfulLimits, command_of, rules_of};
+ghost use Rattle.command_words.specs.Numbers.{number_in, wide_number_in};
+ghost use Rattle.command_words.specs.Commands.{Asks, HasLawfulLength, HasLawfulLimits, command_of, rules_of};
 
 /// The reading of words gives exactly the lawful pieces that spell them, and no other lawful pieces do.
 pub fn lawful_words_have_one_reading()
@@ -29,10 +29,15 @@ pub fn commands_are_spelled()
 
 /// A text writes a number exactly where it is that number in decimal.
 pub fn numbers_are_decimal()
-    ensures { (text : List ℕ) (n : ℕ) → (number_in text ≡ Some n) ↔ ((n < 2 ^ 32) × (text ≡ decimal n)) }
+    ensures narrow { (text : List ℕ) (n : ℕ) → (number_in text ≡ Some n) ↔ ((n < 2 ^ 32) × (text ≡ decimal n)) }
+    ensures wide { (text : List ℕ) (n : ℕ) → (wide_number_in text ≡ Some n) ↔ ((n < 2 ^ 64) × (text ≡ decimal n)) }
 {}
 
-/// Words that ask for limits ask for limits that a collector can have: each is within its range.
+/// Words that ask for limits ask for limits that a collector can have: each is within its range. So is the number of packets
+/// of a made run.
 pub fn limits_are_lawful()
-    ensures { (words : List (List ℕ)) (command : Command) → command_of words ≡ Some command → HasLawfulLimits command }
+    ensures limits { (words : List (List ℕ)) (command : Command) → command_of words ≡ Some command
+        → HasLawfulLimits command }
+    ensures length { (words : List (List ℕ)) (command : Command) → command_of words ≡ Some command
+        → HasLawfulLength command }
 {}

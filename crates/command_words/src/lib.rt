@@ -17,6 +17,7 @@ mod number;
 mod place;
 mod reading;
 mod relay_words;
+mod trial_runs;
 mod trial_words;
 mod words_of_links;
 
@@ -32,7 +33,7 @@ pub use laws::{
 pub use place::Place;
 pub use relay_out::Routes;
 pub use relay_words::{words_of_relay, words_with_receivers};
-pub use trial_words::words_of_trial;
+pub use trial_words::{words_of_made_trial, words_of_trial};
 pub use words_of_links::{words_of_collect, words_of_send};
 
 #[cfg(test)]

@@ -2,7 +2,7 @@
 ghost use Rattle.std.specs.Prelude.{◌≡◌};
 ghost use Rattle.std.specs.Char.{is_ascii_digit};
 ghost use Rattle.std.specs.List.{list_all};
-ghost use Rattle.command_words.specs.Numbers.{has_leading_zero as leading_zero, is_numeral as numeral, number_in as number};
+ghost use Rattle.command_words.specs.Numbers.{has_leading_zero as leading_zero, is_numeral as numeral, number_in as number, wide_number_in as wide_number};
 
 fn has_leading_zero(digits: &[u8]) -> bool
     ensures { result ≡ leading_zero digits.now }
@@ -30,6 +30,17 @@ pub(crate) fn number_in(text: &str) -> Option<u32>
 {
     if is_numeral(text) {
         text.parse().ok()
+    } else {
+        None
+    }
+}
+
+/// The number of 64 bits that the text writes so.
+pub(crate) fn wide_number_in(text: &str) -> Option<u64>
+    ensures { result ≡ wide_number text.now }
+{
+    if is_numeral(text) {
+        text.parse::<u64>().ok()
     } else {
         None
     }

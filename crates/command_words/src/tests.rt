@@ -71,6 +71,17 @@ fn told(alloc: Global, read: &Result<Command<'_>, WordsRefusal>) -> Result<Strin
             let numbers = numbers_of(alloc, limits)?;
             format!(in alloc; "trial {numbers} {interfaces}")
         }
+        Ok(
+            Command::TrialMade {
+                limits,
+                interfaces,
+                seed,
+                packets,
+            },
+        ) => {
+            let numbers = numbers_of(alloc, limits)?;
+            format!(in alloc; "trial {numbers} {interfaces} made {seed} {packets}")
+        }
     }
 }
 
@@ -88,7 +99,7 @@ const RECEIVERS: usize = 2;
 // With ample memory each list of words has its reading.
 #[test]
 fn words_have_their_readings(rt: HostRuntime) -> Result<(), Fail> {
-    let cases: [(&[&str], &str); 68] = [
+    let cases: [(&[&str], &str); 75] = [
         (&[], "usage"),
         (&[""], "usage"),
         (&["replay"], "replay 256 4096 64 1024 5000 false"),
@@ -160,6 +171,28 @@ fn words_have_their_readings(rt: HostRuntime) -> Result<(), Fail> {
         (&["trial", "extra"], "usage"),
         (&["trial", "--interfaces=yes"], "usage"),
         (&["trial", "--boot-slack=99"], "usage"),
+        (
+            &["trial", "--made", "7", "--packets", "1000000"],
+            "trial 256 4096 64 1024 5000 false made 7 1000000",
+        ),
+        (
+            &[
+                "trial",
+                "--packets=10000000",
+                "--interfaces",
+                "--streams=2",
+                "--made=18446744073709551615",
+            ],
+            "trial 2 4096 64 1024 5000 true made 18446744073709551615 10000000",
+        ),
+        (&["trial", "--made", "7"], "usage"),
+        (&["trial", "--packets=5"], "usage"),
+        (
+            &["trial", "--made=18446744073709551616", "--packets=5"],
+            "usage",
+        ),
+        (&["trial", "--made=7", "--packets=0"], "usage"),
+        (&["trial", "--made=7", "--packets=10000001"], "usage"),
         (&["collect"], "usage"),
         (
             &["collect", "--turns", "5"],

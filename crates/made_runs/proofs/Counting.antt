@@ -1,14 +1,13 @@
 -- How many datagrams a boot has sent, behind one thing more that happens.
-use Rattle.std.proofs.Common.{◌≡◌, ◌∙◌, ℕ, zero, suc, ◌+◌, ◌≤◌, ◌<◌, Bool, List, [], ◌∷◌, length, reverse, take, drop, Some, refl, ap, sym, arith, slice_get, length-take}
+use Rattle.std.proofs.Common.{◌≡◌, ◌∙◌, ℕ, zero, suc, ◌+◌, ◌≤◌, ◌<◌, Bool, List, [], ◌∷◌, length, reverse, take, drop, Some, refl, ap, arith, slice_get, length-take}
 use Rattle.std.proofs.lemmas.List.{length-reverse}
-use Rattle.agent_spec.specs.Sources.{CounterSetup}
 use Rattle.agent_spec.specs.Samples.{Sample, Datagram, Setup}
-use Rattle.agent_spec.specs.Events.{Event, turn_after}
+use Rattle.agent_spec.specs.Events.{turn_after}
 use Rattle.agent_spec.specs.Packing.{longest, prefixes}
 use Rattle.agent_spec.specs.Boots.{due_sources, happened, packed, with_sent}
 use Rattle.script_spec.specs.Agents.{poll_at, send_at}
 use Rattle.script_histories.proofs.Stays.{packet_sends, poll_sends}
-use Rattle.trial_spec.specs.Made.{Made, made_flow, made_packet, made_setup, observed, polled, sent_so_far, uptime, with_event}
+use Rattle.trial_spec.specs.Made.{Made, made_flow, made_packet, made_setup, observed, polled, uptime, with_event}
 use Rattle.made_runs.specs.Scripts.{sent_count}
 
 module _ (seed : ℕ) (m : Made) where

@@ -1,5 +1,5 @@
 -- The script goes on by one line more, or without one. Every list of lines, boots, events and deliveries has the LATEST FIRST.
-use Rattle.std.proofs.Common.{◌≡◌, ◌∙◌, inl, inr, ℕ, zero, suc, ◌+◌, ◌*◌, ◌/◌, ◌%◌, ◌==◌, ◌&&◌, ◌||◌, ◌<◌, ◌≤◌, ◌^◌, Bool, true, false, not, cond, List, [], ◌∷◌, ◌++◌, length, map, reverse, drop, Option, Some, None, refl, ap, sym, subst, arith, length-append, slice_get}
+use Rattle.std.proofs.Common.{◌≡◌, ◌∙◌, inl, inr, ℕ, suc, ◌+◌, ◌*◌, ◌/◌, ◌%◌, ◌==◌, ◌||◌, ◌<◌, ◌≤◌, ◌^◌, Bool, true, false, not, List, [], ◌∷◌, ◌++◌, length, map, reverse, drop, Option, Some, None, refl, ap, sym, subst, arith, length-append}
 use Rattle.std.specs.Prelude.{IfSome, IfNone}
 use Rattle.std.specs.List.{AllByRecursion}
 use Rattle.std.proofs.lemmas.Bool.{and_left, and_right, both_ways, cases_order, eq-eqb, eqb-false, not_from_true, or_parts}
@@ -7,27 +7,25 @@ use Rattle.agent_spec.specs.Samples.{Datagram, Setup}
 use Rattle.agent_spec.specs.Events.{Event}
 use Rattle.agent_spec.specs.Boots.{happened, MayHappen}
 use Rattle.agent_spec.proofs.Stages.{never-full}
-use Rattle.account_spec.specs.Histories.{SubAgent}
 use Rattle.account_spec.specs.Deliveries.{Delivery}
 use Rattle.script_spec.specs.Lines as script
 use Rattle.script_spec.specs.Lines.{Line, SubLine, FlowLine, CounterLine, PacketLine, PollLine, SendLine, RestartLine, DeliverLine}
-use Rattle.script_spec.specs.Agents.{AgentBoot, boots_of, datagrams_of, send_at, sender_of, setup_of}
-use Rattle.script_spec.specs.Rules.{may_follow}
+use Rattle.script_spec.specs.Agents.{AgentBoot, boots_of, send_at, setup_of}
 use Rattle.script_spec.specs.Sent as sent
 use Rattle.script_laws.specs.Written.{may_be_written}
-use Rattle.script_laws.specs.Lawful.{AreLawful, BootsMayHappen}
+use Rattle.script_laws.specs.Lawful.{BootsMayHappen}
 use Rattle.script_laws.proofs.Happens.{boots_may}
 use Rattle.std.proofs.lemmas.List.{map-append}
 use Rattle.script_histories.proofs.Lists.{turned}
-use Rattle.script_histories.specs.Histories.{agent_in, deliveries_of, history_of}
-use Rattle.trial_spec.specs.Made.{Made, Sent, all_decided, begun, boot_number, boots_made, decided, is_last_of_boot, is_sent, made, made_counter, made_deliveries, made_flow, made_history, made_packet, made_sender, made_setup, made_until, observed, polled, released, released_of, restarted, restarted_if, sent_all, sent_if, sent_so_far, uptime, with_event}
+use Rattle.script_histories.specs.Histories.{agent_in}
+use Rattle.trial_spec.specs.Made.{Made, Sent, all_decided, begun, boot_number, boots_made, decided, is_last_of_boot, is_sent, made_counter, made_flow, made_packet, made_sender, made_setup, made_until, observed, polled, released, released_of, restarted, restarted_if, sent_all, sent_if, sent_so_far, uptime, with_event}
 use Rattle.made_runs.specs.declared.arrivals.Arrival.{Arrival}
 use Rattle.made_runs.specs.declared.arrivals.Arrivals.{Arrivals}
 use Rattle.made_runs.specs.declared.script.Phase.{Phase}
 use Rattle.made_runs.specs.declared.script.Phase.TheVariants.{Packet, Poll, Send, Decide, Restart, Done}
-use Rattle.made_runs.specs.declared.script.Stage.TheVariants.{Sub, Flow, Counter, Going}
+use Rattle.made_runs.specs.declared.script.Stage.TheVariants.{Flow, Counter, Going}
 use Rattle.made_runs.specs.Runs.{RunState, Naming, StandsFor, IsHeld, IsShort, IsDelivered, Adds, Goes, Keeps, arrived, arrived_once, with_some}
-use Rattle.made_runs.specs.Scripts.{Tells, ScriptState, Told, IsNew, Gave, Gives, IsAt, BeforePacket, BeforePoll, BeforeSend, Deciding, BeforeRestart, AtEnd, IsWhole, StandsAt, all_said, events_in, flow_said, line_of, made_sub, named_by, nothing_due, polled_behind, port, seen, sent_count, sent_now, sub_said, unused}
+use Rattle.made_runs.specs.Scripts.{Tells, ScriptState, Told, IsNew, Gives, IsAt, IsWhole, StandsAt, all_said, events_in, flow_said, line_of, made_sub, named_by, nothing_due, polled_behind, port, seen, sent_count, sent_now, sub_said, unused}
 use Rattle.made_runs.proofs.Kept.{keeps-decided, keeps-released, short-observed, short-until}
 use Rattle.made_runs.proofs.Telling.{adds_still, begins, counter_follows, counter_may, deliver_follows, delivers, flow_follows, flow_may, named_at, next_named, observes, packet_follows, packet_may, poll_follows, poll_may, polls, restart_follows, restart_may, restarts, send_follows, send_may, sends, stands_still, sub_follows, sub_may}
 use Rattle.made_runs.proofs.Counting.{Next, next_item, none_behind, packet_count, poll_count, send_count}

@@ -1,32 +1,30 @@
 -- A line more tells what happens next in the run. Every list of lines, boots, events and deliveries has the LATEST FIRST.
-use Rattle.std.proofs.Common.{◌≡◌, ◌∙◌, ℕ, zero, suc, ◌+◌, ◌-◌, ◌*◌, ◌==◌, ◌&&◌, ◌<◌, ◌≤◌, ◌^◌, Bool, true, false, List, [], ◌∷◌, length, map, reverse, Option, Some, None, refl, ap, sym, subst, arith, slice_get, if◌then◌else◌, ◌++◌}
-use Rattle.std.specs.Prelude.{find, is_some, nat_le, option_and_then, option_map}
+use Rattle.std.proofs.Common.{◌≡◌, ◌∙◌, ℕ, zero, suc, ◌+◌, ◌-◌, ◌<◌, ◌≤◌, ◌^◌, Bool, true, false, List, [], ◌∷◌, length, map, reverse, Option, Some, None, refl, ap, sym, arith, slice_get, if◌then◌else◌, ◌++◌}
+use Rattle.std.specs.Prelude.{find, is_some, nat_le, option_and_then}
 use Rattle.std.specs.List.{cons_option, list_all, list_any}
 use Rattle.std.proofs.lemmas.Bool.{and_from, le-leb, lt-ltb, ne_eqb}
 use Rattle.std.proofs.lemmas.List.{length-map, length-reverse}
 use Rattle.std.proofs.lemmas.Nat.{mod_below}
 use Rattle.agent_spec.specs.Sources.{same_source}
-use Rattle.agent_spec.specs.Samples.{Datagram, Setup}
+use Rattle.agent_spec.specs.Samples.{Datagram}
 use Rattle.agent_spec.specs.Events.{Event}
 use Rattle.agent_spec.specs.Boots.{happened}
 use Rattle.account_spec.specs.Deliveries.{Delivery}
-use Rattle.script_spec.specs.Words.{is_between, is_byte, number32, number64}
+use Rattle.script_spec.specs.Words.{is_between, is_byte}
 use Rattle.script_spec.specs.Values.{skip_number}
 use Rattle.script_spec.specs.Lines as script
 use Rattle.script_spec.specs.Lines.{Line, SubLine, FlowLine, CounterLine, PacketLine, PollLine, SendLine, RestartLine, DeliverLine, SubAgent, flow_at}
-use Rattle.script_spec.specs.Agents.{AgentBoot, Owned, boots_after, boots_of, begun_at, delivered, delivered_of, is_of, numbered, poll_at, send_at, sender_of, setup_of, sources_in, sub_of, subs_in}
+use Rattle.script_spec.specs.Agents.{AgentBoot, Owned, boots_after, boots_of, delivered, delivered_of, is_of, numbered, send_at, setup_of, sub_of}
 use Rattle.script_spec.specs.Rules.{may_follow, sets_up}
-use Rattle.script_spec.specs.Sent.{delivery_in}
 use Rattle.script_laws.specs.Written.{may_be_written}
-use Rattle.script_laws.specs.Lawful.{AreLawful}
 use Rattle.script_laws.proofs.Happens.{same_setup}
-use Rattle.script_histories.specs.Histories.{arrival_of, deliveries_of, delivery_at}
+use Rattle.script_histories.specs.Histories.{arrival_of, delivery_at}
 use Rattle.script_histories.proofs.Lists.{turned}
-use Rattle.script_histories.proofs.MoreLines.{one_more, other_deliveries}
+use Rattle.script_histories.proofs.MoreLines.{other_deliveries}
 use Rattle.script_histories.proofs.Places.{delivery_named}
 use Rattle.script_histories.proofs.Reaching.{same_sender}
 use Rattle.script_histories.proofs.Stays.{delivered_stays}
-use Rattle.trial_spec.specs.Made.{Made, all_drawn, begun, drawn, frame, made_counter, made_flow, made_packet, made_sender, made_setup, made_stream, boot_number, observed, polled, restarted, uptime, with_event, next_state, sent_so_far, Sent}
+use Rattle.trial_spec.specs.Made.{Made, all_drawn, begun, drawn, made_counter, made_flow, made_packet, made_setup, boot_number, observed, polled, restarted, uptime, with_event, next_state, sent_so_far, Sent}
 use Rattle.made_runs.specs.declared.arrivals.Arrival.{Arrival}
 use Rattle.made_runs.specs.Runs.{RunState, StandsFor, IsHeld, IsDelivered, Adds}
 use Rattle.made_runs.specs.Scripts.{Tells, all_said, events_in, flow_said, line_of, made_sub, named_by, port, sub_said}

@@ -23,6 +23,7 @@ pub mod TrueStands
 pub mod TrueSteps
 pub mod TrueFinds
 pub mod TrueTotals
+pub mod SentCounts
 pub mod Arrived
 pub mod TriedLines
 pub mod AgentTexts
@@ -30,12 +31,18 @@ pub mod AgentLines
 pub mod TrialTexts
 pub mod TrialWalk
 pub mod TrialRuns
+pub mod MadeTexts
+pub mod MadeSoFar
+pub mod MadeLines
+pub mod MadeWalk
 pub mod AgentRuns
 pub mod Performed
 pub mod Headline
 pub mod DeliveredClasses
 pub mod Collected
 pub mod TriedAccount
+pub mod MadeRuns
+pub mod MadeAccount
 pub mod PassedInTime
 pub mod Canonical
 pub mod CanonLaws

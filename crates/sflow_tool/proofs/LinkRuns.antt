@@ -32,7 +32,7 @@ collect_lacks asked text before = collects.lacks_memory refl refl
 pub one_done : (input : List ℕ) (one other : Status) → AreBytes input → one ≡ Done → other ≡ Done → one ≡ other
 one_done input one other are first second = first ∙ sym second
 
-flushed_usage : (old new : Seen) (text : List ℕ) → Flushed old new text Done Usage → ⊥
+pub flushed_usage : (old new : Seen) (text : List ℕ) → Flushed old new text Done Usage → ⊥
 flushed_usage old new text (whole is taken) = cc
 flushed_usage old new text (part is taken) = cc
 
@@ -44,7 +44,7 @@ collects_usage asked text before after (not_received turns is fewer link kept) =
 collects_usage asked text before after (reported entries came link kept flush) =
     flushed_usage before.ends.sink after.ends.sink _ flush
 
-flushed_done : (old new : Seen) (text : List ℕ) (status : Status) → Flushed old new text Done status
+pub flushed_done : (old new : Seen) (text : List ℕ) (status : Status) → Flushed old new text Done status
     → ¬ Rose old.faults new.faults → (status ≡ Done) ⊎ (status ≡ Memory)
 flushed_done old new text status (whole is taken) no_write = inl is
 flushed_done old new text status (part is taken) no_write = absurd (no_write (rose _ _ taken.failed))

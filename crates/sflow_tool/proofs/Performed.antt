@@ -11,7 +11,7 @@ use Rattle.report_lines.specs.HeaderLines.{ShownTaps, no_taps}
 use Rattle.sample_taps.specs.declared.brief.Brief.{Brief}
 use Rattle.sample_taps.specs.Feeding.{Held}
 use Rattle.command_words.specs.declared.command.Command.{Command}
-use Rattle.command_words.specs.declared.command.Command.TheVariants.{Replay, Show, Check, Canon, Pcap, Collect, Send, Relay, Agent, Trial}
+use Rattle.command_words.specs.declared.command.Command.TheVariants.{Replay, Show, Check, Canon, Pcap, Collect, Send, Relay, Agent, Trial, TrialMade}
 use Rattle.command_runs.specs.declared.status.Status.{Status}
 use Rattle.command_runs.specs.declared.status.Status.TheVariants.{Done, Found, Usage, ReadFault, WriteFault, BadInput, Memory, LinkFault, Spent}
 use Rattle.command_runs.specs.Acts.{Act}
@@ -41,7 +41,9 @@ use Rattle.relay_out.specs.Routes.{Route}
 use Rattle.sflow_tool.specs.Shows.{show_act}
 use Rattle.sflow_tool.specs.Surroundings.{RunsBetween, RunsCollecting, Surroundings, surroundings}
 use Rattle.sflow_tool.specs.Trials.{HasTriedLines, received_in, trial_act}
+use Rattle.sflow_tool.specs.MadeTrials.{HasMade, made_text}
 use Rattle.sflow_tool.proofs.Arrived.{none_tried, nothing_fed}
+use Rattle.sflow_tool.proofs.MadeRuns.{completes_makes, makes_lacks, makes_usage, none_made}
 
 -- a run of one command is one of another that is the same
 pub of_this : (c d : Command) (before after : Surroundings) (status : Status) → d ≡ c → Performs c before after status
@@ -98,6 +100,7 @@ lacks_memory (Send to) = send_lacks to
 lacks_memory (Relay asked routes) = λ before. ([], collect_lacks asked (relayed_text asked routes []) before)
 lacks_memory Agent = lacks scripts agent_act
 lacks_memory (Trial limits interfaces) = lacks_collecting scripts (trial_act limits interfaces)
+lacks_memory (TrialMade limits interfaces seed packets) = makes_lacks (made_text limits interfaces seed packets)
 
 -- no command ends with `Usage`
 pub no_usage : (c : Command) (before after : Surroundings) → Performs c before after Usage → ⊥
@@ -111,6 +114,8 @@ no_usage (Send to) before after ran = sends_usage to before after ran
 no_usage (Relay asked routes) before after ran = collects_usage asked (relayed_text asked routes ran.0) before after ran.1
 no_usage Agent before after ran = ran.ran.may
 no_usage (Trial limits interfaces) before after ran = ran.ran.may
+no_usage (TrialMade limits interfaces seed packets) before after ran =
+    makes_usage (made_text limits interfaces seed packets) before after ran
 
 -- an input makes a run of a command end in one way
 pub some_ending : (c : Command) (input : List ℕ) → AreBytes input → (ending : Status) × EndsBy c input ending
@@ -124,6 +129,7 @@ some_ending (Send to) input are = captures_once.some send_act input are
 some_ending (Relay asked routes) input are = (Done, refl)
 some_ending Agent input are = scripts_once.some agent_act input are
 some_ending (Trial limits interfaces) input are = scripts_once.some (trial_act limits interfaces no_taps) input are
+some_ending (TrialMade limits interfaces seed packets) input are = (Done, refl)
 
 pub one_ending : (c : Command) (input : List ℕ) (one other : Status) → AreBytes input → EndsBy c input one
     → EndsBy c input other → one ≡ other
@@ -137,6 +143,7 @@ one_ending (Send to) = captures_once.one send_act
 one_ending (Relay asked routes) = one_done
 one_ending Agent = scripts_once.one agent_act
 one_ending (Trial limits interfaces) = scripts_once.one (trial_act limits interfaces no_taps)
+one_ending (TrialMade limits interfaces seed packets) = one_done
 
 -- how an input makes a run end depends on what it finds alone
 decides_as : {X : Type 0} (g : Grammar X) (a b : Act X) → ((x : X) → b.finds x ≡ a.finds x) → (input : List ℕ)
@@ -190,6 +197,7 @@ completes (Relay asked routes) = λ input before after status ending ran.
 completes Agent = completes_between scripts agent_act scripts_once
 completes (Trial limits interfaces) =
     completes_collecting scripts (trial_act limits interfaces) scripts_once (λ t u x. refl)
+completes (TrialMade limits interfaces seed packets) = completes_makes (made_text limits interfaces seed packets)
 
 -- ---- what a run feeds the consumers
 
@@ -204,6 +212,15 @@ module _ {X : Type 0} (step : X → Brief → X → Type 0) (done : X → Bool) 
   fed_read l interfaces seen = record {
     briefs = briefs_in l seen.read.entries;
     feeds = record { read = seen.read; were = refl; reads = seen.reads };
+    held = seen.were;
+  }
+
+  pub fed_made : (l : Limits) (interfaces : Bool) (seed packets : ℕ)
+      → HasMade (λ entries. Held step done (briefs_in l entries) xs ys) seed packets status
+      → IsFed step done (TrialMade l interfaces seed packets) before after status xs ys
+  fed_made l interfaces seed packets seen = record {
+    briefs = briefs_in l seen.entries;
+    feeds = record { entries = seen.entries; were = refl; arrived = seen.arrived };
     held = seen.were;
   }
 
@@ -268,3 +285,5 @@ module _ {X : Type 0} (step : X → Brief → X → Type 0) (done : X → Bool) 
   unfed_memory Agent = unfed_agent step done before before xs Memory
   unfed_memory (Trial l interfaces) =
       record { briefs = []; feeds = none_tried _ _ (sym (nothing_fed l)); held = refl }
+  unfed_memory (TrialMade l interfaces seed packets) =
+      record { briefs = []; feeds = none_made _ seed packets refl; held = refl }

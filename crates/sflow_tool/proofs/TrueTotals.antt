@@ -40,7 +40,7 @@ sum_next : {X : Type 0} (f : X → ℕ) (xs : List X) (k : ℕ) (x : X) → slic
 sum_next f xs k x e =
     omega (arith, ap (sum_by f) (take_next xs k x e), sum_by-append f (take k xs) (x ∷ []), sum_by-cons f x [])
 
-sum_turned : {X : Type 0} (f : X → ℕ) (xs : List X) → sum_by f (reverse xs) ≡ sum_by f xs
+pub sum_turned : {X : Type 0} (f : X → ℕ) (xs : List X) → sum_by f (reverse xs) ≡ sum_by f xs
 sum_turned f [] = refl
 sum_turned f (x ∷ xs) =
     omega (
@@ -52,7 +52,7 @@ sum_turned f (x ∷ xs) =
       sum_turned f xs,
     )
 
-sum_map : {X Y : Type 0} (f : Y → ℕ) (g : X → Y) (xs : List X) → sum_by f (map g xs) ≡ sum_by (λ (x : X). f (g x)) xs
+pub sum_map : {X Y : Type 0} (f : Y → ℕ) (g : X → Y) (xs : List X) → sum_by f (map g xs) ≡ sum_by (λ (x : X). f (g x)) xs
 sum_map f g [] = refl
 sum_map f g (x ∷ xs) =
     omega (arith, sum_by-cons f (g x) (map g xs), sum_by-cons (λ (y : _). f (g y)) x xs, sum_map f g xs)
@@ -60,7 +60,7 @@ sum_map f g (x ∷ xs) =
 -- ---- sums over sub-agents
 
 -- of what this counts in a boot
-abbrev in_all : (Boot → ℕ) → List Line → SubAgent → ℕ
+abbrev pub in_all : (Boot → ℕ) → List Line → SubAgent → ℕ
 in_all count lines s =
     sum_by (λ (events : List Event). count (happened (setup_of lines s) events)) (map events_in (boots_of lines s))
 
@@ -84,19 +84,19 @@ each_sum count lines (x ∷ xs) =
       sum_by-cons (in_all count lines) x xs,
     )
 
-all_sum : (count : Boot → ℕ) (lines : List Line)
+pub all_sum : (count : Boot → ℕ) (lines : List Line)
     → sum_by (in_all count lines) (reverse (subs_in lines)) ≡ sum_by count (boots_in lines)
 all_sum count lines = sum_turned (in_all count lines) (subs_in lines) ∙ sym (each_sum count lines (subs_in lines))
 
 -- ---- so far
 
-abbrev sent_of : Boot → ℕ
+abbrev pub sent_of : Boot → ℕ
 sent_of b = length b.sent
 
-abbrev issued_of : Boot → ℕ
+abbrev pub issued_of : Boot → ℕ
 issued_of b = length b.issued
 
-abbrev dropped_of : Boot → ℕ
+abbrev pub dropped_of : Boot → ℕ
 dropped_of b = length b.dropped
 
 -- the first so many sub-agents are counted, none of which did 2^96 of anything

@@ -15,6 +15,8 @@ pub mod Surroundings
 pub mod Passing
 pub mod Collects
 pub mod Trials
+pub mod MadeTrials
+pub mod MadeLines
 pub mod Relays
 pub mod Sends
 pub mod Performances

@@ -1,7 +1,7 @@
 -- The commands' rows: the form of input that each reads, and what it does with it.
 use Rattle.std.specs.Prelude.{◌≡◌, ℕ, Bool, List, []}
 use Rattle.command_words.specs.declared.command.Command.{Command}
-use Rattle.command_words.specs.declared.command.Command.TheVariants.{Replay, Show, Check, Canon, Pcap, Collect, Send, Relay, Agent, Trial}
+use Rattle.command_words.specs.declared.command.Command.TheVariants.{Replay, Show, Check, Canon, Pcap, Collect, Send, Relay, Agent, Trial, TrialMade}
 use Rattle.command_runs.specs.declared.status.Status.{Status}
 use Rattle.command_runs.specs.declared.status.Status.TheVariants.{Done}
 use Rattle.command_runs.specs.Grammars.{captures, pcap_files, scripts}
@@ -14,6 +14,7 @@ use Rattle.sflow_tool.specs.Agents.{agent_act}
 use Rattle.sflow_tool.specs.Canons.{canon_act}
 use Rattle.sflow_tool.specs.Checks.{check_act}
 use Rattle.sflow_tool.specs.Collects.{CollectsOver, HasCome, collected_text}
+use Rattle.sflow_tool.specs.MadeTrials.{HasMade, Makes, made_text}
 use Rattle.sflow_tool.specs.Pcaps.{pcap_act}
 use Rattle.sflow_tool.specs.Relays.{RelaysSo}
 use Rattle.sflow_tool.specs.Replays.{briefs_in, replay_act}
@@ -34,6 +35,7 @@ Performs (Send to) = Sends to
 Performs (Relay asked routes) = RelaysSo asked routes
 Performs Agent = RunsBetween scripts agent_act
 Performs (Trial limits interfaces) = RunsCollecting scripts (trial_act limits interfaces)
+Performs (TrialMade limits interfaces seed packets) = Makes (made_text limits interfaces seed packets)
 
 -- The input alone makes a run of the command end so, if no call fails and memory is there. What the consumers show doesn't
 -- matter for that. What reads no input does its work, whatever the link gives.
@@ -48,6 +50,7 @@ EndsBy (Send to) = Decides captures send_act
 EndsBy (Relay asked routes) = λ input ending. ending ≡ Done
 EndsBy Agent = Decides scripts agent_act
 EndsBy (Trial limits interfaces) = Decides scripts (trial_act limits interfaces no_taps)
+EndsBy (TrialMade limits interfaces seed packets) = λ input ending. ending ≡ Done
 
 -- The briefs of a run of the command: those of the entries that came before it ended, where it collects or tries, and else
 -- none.
@@ -66,6 +69,8 @@ Feeds (Relay asked routes) before after status briefs =
 Feeds Agent before after status briefs = briefs ≡ []
 Feeds (Trial limits interfaces) before after status briefs =
     HasTriedLines (λ lines. briefs ≡ briefs_in limits (received_in lines)) before.ends.source after.ends.source status
+Feeds (TrialMade limits interfaces seed packets) before after status briefs =
+    HasMade (λ entries. briefs ≡ briefs_in limits entries) seed packets status
 
 -- of the consumers that were handed in, those are held that the briefs of the run leave
 pub record IsFed {X : Type 0} (step : X → Brief → X → Type 0) (done : X → Bool) (c : Command) (before after : Surroundings)

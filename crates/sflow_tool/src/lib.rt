@@ -10,6 +10,7 @@ mod device_lines;
 mod faults;
 mod interfaces;
 mod laws;
+mod made_trial;
 mod pcap;
 mod relay;
 mod replay;

@@ -10,7 +10,7 @@ ghost use Rattle.datagram_links.specs.Links.{LinkTold, datagrams_in};
 ghost use Rattle.command_words.specs.declared.collection.Collection.{Collection};
 ghost use Rattle.sflow_tool.specs.Headlines.{IsCollected, IsDelivered};
 ghost use Rattle.books_spec.specs.declared.limits.Limits.{Limits};
-ghost use Rattle.command_words.specs.Commands.{HasLawfulLimits, command_for, receivers_needed};
+ghost use Rattle.command_words.specs.Commands.{HasLawfulLength, HasLawfulLimits, command_for, receivers_needed};
 ghost use Rattle.relay_out.specs.Lines.{relay_text};
 ghost use Rattle.relay_out.specs.Routes.{Route};
 ghost use Rattle.relay_out.specs.Runs.{RunServed};
@@ -18,6 +18,8 @@ ghost use Rattle.sflow_tool.specs.Passing.{first_in_time};
 ghost use Rattle.sflow_tool.specs.Surroundings.{surroundings};
 ghost use Rattle.sflow_tool.specs.Performances.{EndsBy, IsFed, Performs};
 ghost use Rattle.sflow_tool.specs.Relays.{Relayed, RelaysOver, relays};
+ghost use Rattle.trial_spec.specs.Made.{made_deliveries, made_history};
+ghost use Rattle.sflow_tool.specs.MadeTrials.{made_premises, made_tail};
 ghost use Rattle.sflow_tool.specs.Trials.{all_hold, premises_of, tail_of};
 ghost use Rattle.script_spec.specs.Lines.{Line};
 ghost use Rattle.script_laws.specs.SoFar.{IsScriptOf};
@@ -31,6 +33,7 @@ use crate::agent::agent;
 use crate::canon::canon;
 use crate::check::check;
 use crate::collect::collect;
+use crate::made_trial::made_trial;
 use crate::pcap::pcap;
 use crate::relay::relay;
 use crate::replay::replay;
@@ -40,7 +43,7 @@ use crate::trial::trial;
 use command_runs::Status;
 use command_words::{Command as Asked, WordsRefusal, read_words};
 use datagram_links::{Link, Receiver};
-use delivered_items::laws::scripts_are_accepted;
+use delivered_items::laws::{made_runs_are_accepted, scripts_are_accepted};
 use flow_collector::Seeds;
 use relay_out::Receivers;
 use sample_taps::{Tap, Taps};
@@ -48,7 +51,7 @@ use script_histories::laws::scripts_are_histories;
 use script_laws::{scripts_are_lawful, scripts_are_read};
 use sflow_io::{Sink, Source};
 use std::alloc::Global;
-use trial_spec::laws::four_tests_are_the_premises;
+use trial_spec::laws::{four_tests_are_the_premises, made_runs_are_histories};
 
 /// Does what the words say, from the source to the sink or over the link. The words are without the program's name.
 ///
@@ -84,7 +87,8 @@ use trial_spec::laws::four_tests_are_the_premises;
 /// `trial` reads a script and runs it, but what its `deliver` lines deliver goes to a collector and the consumers as soon as
 /// each is read. At the end it writes the report, as `replay` does of these datagrams, a line of how many datagrams the
 /// sub-agents sent, samples they issued and packets they dropped, and a line of which premises hold. A line that breaks a rule
-/// ends it as it ends `agent`, and then nothing is written; memory may be lacking at any line.
+/// ends it as it ends `agent`, and then nothing is written; memory may be lacking at any line. With `--made` and `--packets` it
+/// reads nothing: it makes the run of that seed with so many packets, and writes the same of what is delivered of it.
 /// Every other command takes all memory before the first byte is read or written, and before the link or a receiver is used.
 pub fn run<S: Source, K: Sink, L: Link>(
     alloc: Global,
@@ -214,6 +218,25 @@ pub fn run<S: Source, K: Sink, L: Link>(
         (λ x. (⟦<dyn Tap as Tap>⟧ x.vtable).ended x.value) (account_briefs limits (deliveries_of lines))
         taps.old.held.items taps.new.held.items }
 
+    // The same of a made run.
+    ensures made_account { (limits : Limits) (interfaces : Bool) (seed packets : ℕ)
+        → command_for (vec_len receivers.old.held) (map string_bytes words.now)
+        ≡ Some (Command.TrialMade limits interfaces seed packets)
+        → made_premises limits seed packets ≡ all_hold → result ≡ Status.Done
+        → Takes (K.seen sink.old) (K.seen sink.new) (report_with interfaces
+        (account limits (made_history seed packets) (made_deliveries seed packets))
+        (account_classes limits (made_deliveries seed packets))
+        (shown_taps (λ x. (⟦<dyn Tap as Tap>⟧ x.vtable).text x.value) taps.new.held.items taps.new.ended)
+        ++ made_tail limits seed packets) }
+
+    ensures made_briefs { (limits : Limits) (interfaces : Bool) (seed packets : ℕ)
+        → command_for (vec_len receivers.old.held) (map string_bytes words.now)
+        ≡ Some (Command.TrialMade limits interfaces seed packets)
+        → made_premises limits seed packets ≡ all_hold → result ≡ Status.Done
+        → Held (λ x b y. (v : _) × (y ≡ record x { value = v }) × (⟦<dyn Tap as Tap>⟧ x.vtable).step x.value b v)
+        (λ x. (⟦<dyn Tap as Tap>⟧ x.vtable).ended x.value) (account_briefs limits (made_deliveries seed packets))
+        taps.old.held.items taps.new.held.items }
+
     // What goes on then is each datagram that was delivered in time, once, and no other.
     ensures relay_delivered { (asked : Collection) (routes : List Route) (history : List SubAgent) (deliveries : List Delivery)
         (told : LinkTold)
@@ -251,6 +274,8 @@ pub fn run<S: Source, K: Sink, L: Link>(
     scripts_are_histories();
     scripts_are_accepted();
     four_tests_are_the_premises();
+    made_runs_are_histories();
+    made_runs_are_accepted();
     match read_words(alloc, words, receivers.len()) {
         Ok(command) => perform(alloc, command, seeds, source, sink, link, taps, receivers),
         Err(WordsRefusal::Usage) => Status::Usage,
@@ -270,6 +295,7 @@ fn perform<S: Source, K: Sink, L: Link>(
     receivers: &mut Receivers,
 ) -> Status
     requires lawful { HasLawfulLimits command }
+    requires length { HasLawfulLength command }
     requires enough { receivers_needed command ≤ vec_len receivers.old.held }
     requires few { taps.old.ended + vec_len taps.old.held < 2 ^ 64 }
     ensures runs { Performs command.entry (surroundings (S.seen source.old) (K.seen sink.old) (L.seen link.old)
@@ -314,5 +340,11 @@ fn perform<S: Source, K: Sink, L: Link>(
         Asked::Trial { limits, interfaces } => {
             trial(alloc, limits, interfaces, seeds, source, sink, taps)
         }
+        Asked::TrialMade {
+            limits,
+            interfaces,
+            seed,
+            packets,
+        } => made_trial(alloc, limits, interfaces, seeds, seed, packets, sink, taps),
     }
 }

@@ -128,7 +128,7 @@ fn take_lines<S: Source>(
 }
 
 // Puts the report and the two lines behind it, and ends the run.
-fn finish<K: Sink>(
+pub(crate) fn finish<K: Sink>(
     sink: &mut K,
     run: &TrialRun,
     collector: &Collector,

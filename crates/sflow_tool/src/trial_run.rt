@@ -3,8 +3,9 @@ ghost use Rattle.std.specs.Prelude.{◌≡◌, ◌+◌, ◌<◌, ◌≤◌, ◌^
 ghost use Rattle.std.specs.List.{list_all};
 ghost use Rattle.std.specs.declared.result.Result.TheVariants.{Err};
 ghost use Rattle.books_spec.specs.declared.limits.Limits.{Limits as Bounds};
-ghost use Rattle.script_spec.specs.Lines.{Line};
-ghost use Rattle.script_spec.specs.Sent.{all_delivered};
+ghost use Rattle.script_spec.specs.Lines.{Line, SubAgent};
+ghost use Rattle.script_spec.specs.Agents.{boots_of, subs_in};
+ghost use Rattle.script_spec.specs.Sent.{all_delivered, sent_count};
 ghost use Rattle.script_spec.specs.Rules.{may_follow, sets_up as setting_up};
 ghost use Rattle.script_laws.specs.Lawful.{AreLawful};
 ghost use Rattle.script_laws.specs.Written.{may_be_written};
@@ -191,6 +192,19 @@ impl TrialRun {
         match tried.follow(alloc, &step, collector, taps) {
             Ok(()) => Ok(()),
             Err(_) => Err(Unfit::Memory),
+        }
+    }
+
+    /// How many datagrams the first sub-agent has sent in its current boot, and 0 before the first line that sets nothing
+    /// up.
+    pub(crate) fn sent(&self) -> u64
+        ensures of_first { (lines : List Line) (s : SubAgent) → TrialStands self.now lines → subs_in lines ≡ s ∷ []
+            → result ≡ sent_count lines s (boots_of lines s) }
+        ensures setting_up { (lines : List Line) → TrialStands self.now lines → list_all setting_up lines ≡ true → result ≡ 0 }
+    {
+        match &self.tried {
+            Some(tried) => tried.trues.sent_count(0) as u64,
+            None => 0,
         }
     }
 

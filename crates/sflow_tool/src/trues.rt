@@ -1,9 +1,11 @@
 // What the sub-agents of a script truly counted, line by line.
-ghost use Rattle.std.specs.Prelude.{◌≡◌, ◌<◌, ◌++◌, ◌^◌, false, true, ℕ, List, ◌∷◌, length, map, IfOk, OnOk, IfSome, IfNone};
+ghost use Rattle.std.specs.Prelude.{◌≡◌, ◌<◌, ◌≤◌, ◌++◌, ◌^◌, false, true, ℕ, List, ◌∷◌, length, map, reverse, slice_get, Some, IfOk, OnOk, IfSome, IfNone};
 ghost use Rattle.std.specs.List.{list_all};
 ghost use Rattle.account_spec.specs.Histories.{counter_sources, flow_sources};
-ghost use Rattle.script_spec.specs.Lines.{Line};
+ghost use Rattle.script_spec.specs.Lines.{Line, SubAgent};
+ghost use Rattle.script_spec.specs.Agents.{boots_of, subs_in};
 ghost use Rattle.script_spec.specs.Rules.{sets_up};
+ghost use Rattle.script_spec.specs.Sent.{sent_count};
 ghost use Rattle.script_laws.specs.Lawful.{AreLawful};
 ghost use Rattle.script_tables.specs.Said.{AreSetUp};
 ghost use Rattle.sub_agents.specs.SubAgents.{BootSoFar};
@@ -150,6 +152,18 @@ impl Trues {
             return self.subs[place].find(boot, number);
         }
         None
+    }
+
+    /// How many datagrams the sub-agent at a place has sent in its current boot, and 0 where there is none.
+    pub(crate) fn sent_count(&self, place: usize) -> usize
+        ensures some { (lines : List Line) (s : SubAgent) → slice_get (reverse (subs_in lines)) place ≡ Some s
+            → TrueOf self.now lines → result ≡ sent_count lines s (boots_of lines s) }
+        ensures none { length self.now ≤ place → result ≡ 0 }
+    {
+        if place < self.subs.len() {
+            return self.subs[place].sent_count();
+        }
+        0
     }
 
     /// How many sources each sub-agent has.

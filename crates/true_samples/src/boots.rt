@@ -1,4 +1,4 @@
-ghost use Rattle.std.specs.Prelude.{◌≡◌, ◌+◌, ◌-◌, ◌%◌, ◌^◌, ◌==◌, if◌then◌else◌, [], IfSome, IfNone, Some, None, slice_get};
+ghost use Rattle.std.specs.Prelude.{◌≡◌, ◌+◌, ◌-◌, ◌%◌, ◌^◌, ◌==◌, if◌then◌else◌, [], length, IfSome, IfNone, Some, None, slice_get};
 ghost use Rattle.script_spec.specs.Agents.{numbered};
 
 use crate::samples::SentDatagram;
@@ -42,6 +42,13 @@ impl TrueBoot {
             return None;
         }
         self.datagrams.get((number - 1) as usize)
+    }
+
+    /// How many datagrams were sent.
+    pub fn sent_count(&self) -> usize
+        ensures { result ≡ length self.now.datagrams }
+    {
+        self.datagrams.len()
     }
 
     pub fn count_issued(&mut self)

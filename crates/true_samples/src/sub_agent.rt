@@ -99,6 +99,14 @@ impl TrueSubAgent {
         self.flow_ids.len() + self.counter_ids.len()
     }
 
+    /// How many datagrams it has sent in its current boot.
+    pub fn sent_count(&self) -> usize
+        ensures { (sender : Sender) (s : Setup) (events : List Event) (earlier : List (List Event))
+            → StandsFor sender s self.now events earlier → result ≡ length (happened s events).sent }
+    {
+        self.current.sent_count()
+    }
+
     /// What it did in all its boots.
     pub fn totals(&self) -> Totals
         ensures datagrams { (sender : Sender) (s : Setup) (events : List Event) (earlier : List (List Event))

@@ -45,9 +45,15 @@ returns-in-Some-clause-command c =
 
 pub returns-in-Some-clause-lawful : goal.returns-in-Some-clause-lawful
 returns-in-Some-clause-lawful c =
-    named_lawful (map string_bytes c.args.words.now) c.args.name _
+    (named_lawful (map string_bytes c.args.words.now) c.args.name _
     (named_read (map string_bytes c.args.words.now) c.args.name _ _ _ _ _ c.args.receivers c.arguments.ensures c.asks_for.ensures c.if-not-asks_for.false c.in-Ok.ensures.matches
-    c.command_in.ensures c.in-Some.is)
+    c.command_in.ensures c.in-Some.is)).0
+
+pub returns-in-Some-clause-length : goal.returns-in-Some-clause-length
+returns-in-Some-clause-length c =
+    (named_lawful (map string_bytes c.args.words.now) c.args.name _
+    (named_read (map string_bytes c.args.words.now) c.args.name _ _ _ _ _ c.args.receivers c.arguments.ensures c.asks_for.ensures c.if-not-asks_for.false c.in-Ok.ensures.matches
+    c.command_in.ensures c.in-Some.is)).1
 
 pub returns-in-Some-clause-enough : goal.returns-in-Some-clause-enough
 returns-in-Some-clause-enough c =

@@ -4,4 +4,4 @@ use Rattle.command_words.proofs.number.number_in.Goals as goal
 
 pub returns-then-is_numeral : goal.returns-then-is_numeral
 returns-then-is_numeral c =
-    c.ok.ensures.value ∙ numeral_parsed c.args.text.now c.parse.result c.if-is_numeral.ensures c.parse.ensures.value.0
+    c.ok.ensures.value ∙ numeral_parsed 32 c.args.text.now c.parse.result c.if-is_numeral.ensures c.parse.ensures.value.0

@@ -1,10 +1,10 @@
 use Rattle.std.proofs.Common.{◌≤◌, ◌∙◌, sym, ap, subst, true≢false}
 use Rattle.std.specs.Prelude.{vec_len}
-use Rattle.command_words.specs.Commands.{receivers_needed}
+use Rattle.command_words.specs.Commands.{HasLawfulLength, receivers_needed}
 use Rattle.command_words.specs.declared.command.Command.{Command}
 use Rattle.sflow_tool.specs.Relays.{relays}
-use Rattle.command_words.specs.declared.command.Command.TheVariants.{Replay, Show, Check, Canon, Pcap, Collect, Send, Relay, Agent, Trial}
-use Rattle.sflow_tool.proofs.Performed.{between, collecting, fed_as, fed_come, fed_read, fed_relay, fed_tried, of_this, sends_as, unfed_canon, unfed_check, unfed_pcap, unfed_send, unfed_show, unfed_agent}
+use Rattle.command_words.specs.declared.command.Command.TheVariants.{Replay, Show, Check, Canon, Pcap, Collect, Send, Relay, Agent, Trial, TrialMade}
+use Rattle.sflow_tool.proofs.Performed.{between, collecting, fed_as, fed_come, fed_made, fed_read, fed_relay, fed_tried, of_this, sends_as, unfed_canon, unfed_check, unfed_pcap, unfed_send, unfed_show, unfed_agent}
 use Rattle.sflow_tool.proofs.Relaying.{lines_as, not_relay, relayed_as, turns_as}
 use Rattle.sflow_tool.proofs.top.perform.Goals as goal
 
@@ -184,3 +184,28 @@ returns-in-Trial-clause-relayed g c = λ asked routes is. absurd (not_relay c.ar
 
 pub returns-in-Trial-clause-turns : goal.returns-in-Trial-clause-turns
 returns-in-Trial-clause-turns g c = λ asked routes is. absurd (not_relay c.args.command asked routes is (ap relays c.in-Trial.is))
+
+pub made_trial-requires-clause-some : goal.made_trial-requires-clause-some
+made_trial-requires-clause-some g c = (subst HasLawfulLength c.in-TrialMade.is c.requires.length).0
+
+pub made_trial-requires-clause-most : goal.made_trial-requires-clause-most
+made_trial-requires-clause-most g c = (subst HasLawfulLength c.in-TrialMade.is c.requires.length).1
+
+pub returns-in-TrialMade-clause-runs : goal.returns-in-TrialMade-clause-runs
+returns-in-TrialMade-clause-runs g c =
+    of_this (TrialMade c.in-TrialMade.limits c.in-TrialMade.interfaces c.in-TrialMade.seed c.in-TrialMade.packets) c.args.command _ _ _ c.in-TrialMade.is (c.made_trial.ensures.runs _ _)
+
+pub returns-in-TrialMade-clause-fed : goal.returns-in-TrialMade-clause-fed
+returns-in-TrialMade-clause-fed g c =
+    fed_as _ _ _ _ _ _ _ (TrialMade c.in-TrialMade.limits c.in-TrialMade.interfaces c.in-TrialMade.seed c.in-TrialMade.packets) c.args.command c.in-TrialMade.is
+    (fed_made _ _ _ _ _ _ _ c.in-TrialMade.limits c.in-TrialMade.interfaces c.in-TrialMade.seed c.in-TrialMade.packets
+    c.made_trial.ensures.fed)
+
+pub returns-in-TrialMade-clause-relay_lines : goal.returns-in-TrialMade-clause-relay_lines
+returns-in-TrialMade-clause-relay_lines g c = λ asked routes is. absurd (not_relay c.args.command asked routes is (ap relays c.in-TrialMade.is))
+
+pub returns-in-TrialMade-clause-relayed : goal.returns-in-TrialMade-clause-relayed
+returns-in-TrialMade-clause-relayed g c = λ asked routes is. absurd (not_relay c.args.command asked routes is (ap relays c.in-TrialMade.is))
+
+pub returns-in-TrialMade-clause-turns : goal.returns-in-TrialMade-clause-turns
+returns-in-TrialMade-clause-turns g c = λ asked routes is. absurd (not_relay c.args.command asked routes is (ap relays c.in-TrialMade.is))

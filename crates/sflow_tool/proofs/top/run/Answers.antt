@@ -1,10 +1,14 @@
 use Rattle.std.proofs.Common.{◌≡◌, ◌≤◌, ℕ, List, map, string_bytes, Option, None, Some, refl, sym, ap, subst, ◌∙◌}
-use Rattle.command_words.specs.Commands.{command_for, receivers_needed}
+use Rattle.command_words.specs.Commands.{HasLawfulLength, command_for, receivers_needed}
 use Rattle.command_words.specs.Rules.{Text}
 use Rattle.command_words.specs.declared.command.Command.{Command}
-use Rattle.command_words.specs.declared.command.Command.TheVariants.{Collect, Relay, Replay, Trial}
+use Rattle.command_words.specs.declared.command.Command.TheVariants.{Collect, Relay, Replay, Trial, TrialMade}
 use Rattle.sflow_tool.proofs.Collected.{collected_briefs, collected_of, relay_collected, turned_of}
 use Rattle.sflow_tool.proofs.LinkRuns.{collect_lacks, turns_done}
+use Rattle.byte_ends.specs.Seen.{Takes}
+use Rattle.trial_spec.specs.Made.{made_deliveries, made_history}
+use Rattle.sflow_tool.proofs.MadeAccount.{account_briefs_are, account_text}
+use Rattle.sflow_tool.proofs.MadeRuns.{made_done, made_held}
 use Rattle.sflow_tool.proofs.PassedInTime.{relayed_in_time}
 use Rattle.sflow_tool.proofs.TriedAccount.{account_fed, account_written, script_lawful}
 use Rattle.sflow_tool.specs.Relays as relays
@@ -25,6 +29,9 @@ counted n m words c same is = subst (λ k. command_for k words ≡ Some c) same 
 
 pub perform-requires-clause-lawful : goal.perform-requires-clause-lawful
 perform-requires-clause-lawful g c = c.in-Ok.ensures.lawful
+
+pub perform-requires-clause-length : goal.perform-requires-clause-length
+perform-requires-clause-length g c = c.in-Ok.ensures.length
 
 pub returns-in-Ok-clause-usage : goal.returns-in-Ok-clause-usage
 returns-in-Ok-clause-usage g c = (
@@ -156,3 +163,26 @@ returns-in-Ok-clause-trial_briefs g c = λ limits interfaces lines input words t
     (c.four_tests_are_the_premises.ensures limits _ _ (c.scripts_are_histories.ensures.history lines lawful)
     (c.scripts_are_histories.ensures.sent lines lawful)) hold input
     (λ a is. c.scripts_are_read.ensures.script a input is) script _ _ _ _ _ fed.briefs _ _ fed.feeds fed.held done told
+
+pub returns-in-Ok-clause-made_account : goal.returns-in-Ok-clause-made_account
+returns-in-Ok-clause-made_account g c = λ limits interfaces seed packets words hold done.
+    let same : TrialMade limits interfaces seed packets ≡ c.in-Ok.command =
+    same_command (TrialMade limits interfaces seed packets) c.in-Ok.command (sym words ∙ (counted _ _ (map string_bytes c.args.words.now) c.in-Ok.command c.len.ensures c.in-Ok.ensures.command)) in
+    subst (Takes _ _)
+    (account_text limits (made_history seed packets) (made_deliveries seed packets)
+    (c.made_runs_are_histories.ensures.history seed packets) (c.made_runs_are_histories.ensures.sent seed packets)
+    (c.made_runs_are_accepted.ensures seed packets (subst HasLawfulLength (sym same) c.in-Ok.ensures.length).1)
+    (c.four_tests_are_the_premises.ensures limits (made_history seed packets) (made_deliveries seed packets)) hold interfaces _)
+    (made_done _ _ _ _ (of_this c.in-Ok.command (TrialMade limits interfaces seed packets) _ _ _ same c.perform.ensures.runs) done)
+
+pub returns-in-Ok-clause-made_briefs : goal.returns-in-Ok-clause-made_briefs
+returns-in-Ok-clause-made_briefs g c = λ limits interfaces seed packets words hold done.
+    let same : TrialMade limits interfaces seed packets ≡ c.in-Ok.command =
+    same_command (TrialMade limits interfaces seed packets) c.in-Ok.command (sym words ∙ (counted _ _ (map string_bytes c.args.words.now) c.in-Ok.command c.len.ensures c.in-Ok.ensures.command)) in
+    let fed = fed_as _ _ _ _ _ _ _ c.in-Ok.command (TrialMade limits interfaces seed packets) same c.perform.ensures.fed in
+    made_held _ _ limits fed.briefs _ seed packets _ _ _ fed.feeds done
+    (account_briefs_are limits (made_history seed packets) (made_deliveries seed packets)
+    (c.made_runs_are_histories.ensures.history seed packets) (c.made_runs_are_histories.ensures.sent seed packets)
+    (c.made_runs_are_accepted.ensures seed packets (subst HasLawfulLength (sym same) c.in-Ok.ensures.length).1)
+    (c.four_tests_are_the_premises.ensures limits (made_history seed packets) (made_deliveries seed packets)) hold)
+    fed.held

@@ -1,8 +1,7 @@
-use Rattle.std.proofs.Common.{◌≡◌, ◌∙◌, ◌+◌, ◌<◌, ℕ, List, refl, subst, sym, ap, arith}
-use Rattle.script_spec.specs.Lines.{Line}
+use Rattle.std.proofs.Common.{◌≡◌, ◌∙◌, ◌+◌, refl, subst, sym, ap, arith}
 use Rattle.script_lines.specs.Shown.{shown}
 use Rattle.made_runs.specs.declared.script.Phase.TheVariants.{Decide}
-use Rattle.made_runs.specs.Scripts.{ScriptState, Told, IsWhole, nothing_due, sent_now}
+use Rattle.made_runs.specs.Scripts.{ScriptState, Told, IsWhole, nothing_due}
 use Rattle.made_runs.proofs.Scripting.{all_decided_so, gives_from, if_none, if_some, one_decided}
 use Rattle.made_runs.proofs.script.MadeScript.decided_line.Goals as goal
 

@@ -1,4 +1,4 @@
-use Rattle.std.proofs.Common.{◌≡◌, None, List, refl, subst, sym}
+use Rattle.std.proofs.Common.{◌≡◌, None, List, subst, sym}
 use Rattle.script_spec.specs.Lines.{Line, DeliverLine}
 use Rattle.made_runs.specs.declared.script.Phase.{Phase}
 use Rattle.made_runs.specs.declared.script.Stage.TheVariants.{Going}

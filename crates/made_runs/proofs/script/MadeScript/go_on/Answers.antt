@@ -1,8 +1,6 @@
-use Rattle.std.proofs.Common.{◌≡◌, ◌∙◌, List, subst, sym, ap}
-use Rattle.script_spec.specs.Lines.{Line}
+use Rattle.std.proofs.Common.{◌∙◌, subst, ap}
 use Rattle.script_lines.specs.Shown.{shown}
 use Rattle.made_runs.specs.declared.script.Phase.{Phase}
-use Rattle.made_runs.specs.declared.script.Phase.TheVariants.{Packet, Poll, Send, Decide, Restart, Done}
 use Rattle.made_runs.specs.Scripts.{ScriptState, Told, Gives, IsWhole}
 use Rattle.made_runs.proofs.Scripting.{if_none, if_some, told_as, whole_so}
 use Rattle.made_runs.proofs.script.MadeScript.go_on.Goals as goal

@@ -1,14 +1,12 @@
-use Rattle.std.proofs.Common.{◌≡◌, ◌∙◌, Some, None, true, false, List, refl, subst, sym, ap}
+use Rattle.std.proofs.Common.{◌≡◌, List, refl, subst, ap}
 use Rattle.std.specs.Prelude.{IfSome, IfNone}
 use Rattle.script_spec.specs.Lines.{Line}
 use Rattle.script_lines.specs.Shown.{shown}
-use Rattle.script_lines.specs.declared.line.ScriptLine.{ScriptLine}
-use Rattle.trial_spec.specs.Made.{is_last_of_boot}
 use Rattle.made_runs.specs.declared.arrivals.Arrivals.{Arrivals}
-use Rattle.made_runs.specs.declared.script.Phase.TheVariants.{Decide, Done, Packet, Restart}
+use Rattle.made_runs.specs.declared.script.Phase.TheVariants.{Decide, Done}
 use Rattle.made_runs.specs.declared.script.Stage.TheVariants.{Going}
 use Rattle.made_runs.specs.Scripts.{ScriptState, Told, Gives, IsWhole, nothing_due, sent_now}
-use Rattle.made_runs.proofs.Scripting.{boot_ends, gives_from, if_none, if_some, packet_next, run_ends, whole_so}
+use Rattle.made_runs.proofs.Scripting.{gives_from, if_none, if_some, run_ends, whole_so}
 use Rattle.made_runs.proofs.script.MadeScript.last_line.Goals as goal
 
 pub returns-clause-some : goal.returns-clause-some

@@ -1,10 +1,9 @@
-use Rattle.std.proofs.Common.{◌≡◌, ◌∙◌, List, subst, sym, ap}
-use Rattle.script_spec.specs.Lines.{Line}
+use Rattle.std.proofs.Common.{◌∙◌, subst, sym, ap}
 use Rattle.script_lines.specs.Shown.{shown}
 use Rattle.made_runs.specs.declared.script.Phase.TheVariants.{Packet}
 use Rattle.made_runs.specs.declared.script.Stage.{Stage}
-use Rattle.made_runs.specs.declared.script.Stage.TheVariants.{Sub, Flow, Counter, Going}
-use Rattle.made_runs.specs.Scripts.{ScriptState, Gave, Gives, IsWhole, StandsAt}
+use Rattle.made_runs.specs.declared.script.Stage.TheVariants.{Flow, Counter, Going}
+use Rattle.made_runs.specs.Scripts.{ScriptState, Gave, Gives, StandsAt}
 use Rattle.made_runs.proofs.Scripting.{counter_gives, flow_gives, if_none, if_some, sub_gives}
 use Rattle.made_runs.proofs.script.MadeScript.next.Goals as goal
 

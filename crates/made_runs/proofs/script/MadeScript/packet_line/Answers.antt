@@ -1,10 +1,10 @@
-use Rattle.std.proofs.Common.{◌≡◌, ◌∙◌, ◌%◌, ◌+◌, ◌^◌, suc, true, false, List, refl, subst, sym, ap, arith}
+use Rattle.std.proofs.Common.{◌≡◌, ◌∙◌, ◌%◌, ◌+◌, suc, List, subst, sym, ap, arith}
 use Rattle.std.proofs.Math.Nat.{mod-eq_of_lt}
 use Rattle.script_spec.specs.Lines.{Line, PacketLine}
 use Rattle.script_lines.specs.Shown.{shown}
 use Rattle.trial_spec.specs.Made.{is_sent, made_packet}
 use Rattle.made_runs.specs.declared.script.Phase.{Phase}
-use Rattle.made_runs.specs.declared.script.Phase.TheVariants.{Packet, Poll}
+use Rattle.made_runs.specs.declared.script.Phase.TheVariants.{Packet}
 use Rattle.made_runs.specs.declared.script.Stage.TheVariants.{Going}
 use Rattle.made_runs.specs.Scripts.{ScriptState, Told, Gives, named_by, nothing_due, port}
 use Rattle.made_runs.proofs.Scripting.{packet_gives, stage_of}
