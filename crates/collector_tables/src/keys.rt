@@ -1,8 +1,7 @@
-ghost use Rattle.std.specs.Prelude.{◌≡◌, ◌+◌, ◌*◌, ◌%◌, ◌^◌, ◌++◌, if◌then◌else◌};
-ghost use Rattle.std.specs.Hash as fed;
+ghost use Rattle.std.specs.Prelude.{◌≡◌};
 ghost use Rattle.std.specs.Cmp.Rules.{hashing};
 ghost use Rattle.std.proofs.Common.{rules};
-ghost use Rattle.collector_tables.specs.Hashes.{stream_words, same_words};
+ghost use Rattle.collector_tables.specs.Hashes.{stream_words, same_words, source_words};
 ghost use Rattle.collector_tables.specs.Kinds.{is_flow_kind};
 
 use data_format::{Address, SourceId};
@@ -70,18 +69,21 @@ pub struct SourceKey {
     pub source: SourceId,
 }
 
-// Classes that differ by 2^31 have the same words.
+// One word where the class is small, as those of the standard are, so that a sample costs one round: places of streams
+// below 2^20 have words of their own.
 impl Hash for SourceKey {
-    ghost hash_input = { λ k.
-        fed.u64 (k.stream * 2 ^ 32 + (k.source.class % 2 ^ 31 * 2 + (if is_flow_kind k.kind then 1 else 0)))
-        ++ fed.u64 k.source.index };
+    ghost hash_input = { λ k. source_words k.stream k.kind k.source };
 
     ghost respects_eq = { Prim.search (hashing, rules) };
 
     #[inline(always)]
     fn hash<H: Hasher>(&self, state: &mut H) {
-        let kind = self.source.class % (1 << 31) * 2 + self.kind.is_flow() as u32;
-        state.write_u64(((self.stream as u64) << 32) + kind as u64);
-        state.write_u64(self.source.index as u64);
+        let stream = (self.stream % (1 << 20)) as u64;
+        let kind = self.kind.is_flow() as u64;
+        let class = (self.source.class % (1 << 11)) as u64;
+        state.write_u64(((stream * 2 + kind) * (1 << 11) + class) * (1 << 32) + self.source.index as u64);
+        if self.source.class >= 1 << 11 {
+            state.write_u64(self.source.class as u64);
+        }
     }
 }

@@ -109,6 +109,7 @@ impl SourceTable {
     }
 
     // Enters what a sample of this boot shows into the source at a place.
+    #[inline(always)]
     fn enter_at(
         &mut self,
         place: usize,
@@ -137,6 +138,7 @@ impl SourceTable {
     /// Enters what a sample of a source shows that stands at this place in this boot of its stream, which is that of
     /// the last sample or a later one; `None` exactly where the source is new and there is no room. The windows have
     /// this width, from 1 to 8,192. Fewer than 2^62 samples of each source were entered before.
+    #[inline(always)]
     pub fn enter(
         &mut self,
         key: SourceKey,

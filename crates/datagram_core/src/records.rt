@@ -128,6 +128,7 @@ impl<'a> Records<'a> {
     }
 
     /// The first one that is left, which is then passed; `None` exactly where none is left.
+    #[inline(always)]
     pub fn next(&mut self) -> Option<Record<'a>>
         ensures none { IfNone result ((self.old.frames ≡ []) × (self.new.frames ≡ [])) }
         ensures some { IfSome result (λ r. (f : FrameView) × (self.old.frames ≡ f ∷ self.new.frames) × IsRecordOf self.old.kind f r) }

@@ -69,6 +69,7 @@ impl<'a> Samples<'a> {
     }
 
     /// The first one that is left, which is then passed; `None` exactly where none is left.
+    #[inline(always)]
     pub fn next(&mut self) -> Option<Sample<'a>>
         ensures none { IfNone result ((self.old ≡ []) × (self.new ≡ [])) }
         ensures some { IfSome result (λ s. (f : FrameView) × (self.old ≡ f ∷ self.new) × IsSampleOf f s) }

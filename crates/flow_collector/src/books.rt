@@ -151,6 +151,7 @@ impl Books {
 
     /// Enters the flow sample of this head of this index of the datagram, and answers the number of its stream, counted from
     /// 1, where the sample is First: its headers then go to the consumers. `None` where they don't.
+    #[inline(always)]
     pub(crate) fn enter_flow(&mut self, found: &TakenAt, index: u32, head: &FlowHead) -> Option<u32>
         requires midway { Midway self.old found.now index }
         requires few { index ≤ 8190 }
@@ -213,6 +214,7 @@ impl Books {
     }
 
     // Enters what a sample shows whose format is read, and the counters of an interface that it may carry.
+    #[inline(always)]
     fn enter(
         &mut self,
         found: &TakenAt,

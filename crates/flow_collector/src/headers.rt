@@ -17,7 +17,7 @@ use sample_taps::{Briefing, Sampled, Tap, Taps};
 
 /// Gives the headers of a sample to the consumers, the first one that is left, by the head of a flow sample and the number
 /// of its stream.
-#[inline(never)]
+#[inline(always)]
 pub(crate) fn push_headers(
     briefing: &mut Briefing,
     taps: &mut Taps,

@@ -74,6 +74,7 @@ impl Window {
 
     /// Enters a mark, of fewer than 2^62 entered before. The number that it stands for is counted where the
     /// answer is `First`.
+    #[inline(always)]
     pub fn enter(&mut self, mark: u32) -> Entered
         requires few { self.old.entered < 2 ^ 62 }
         ensures stands { (marks : List ℕ) → StandsFor self.old marks → StandsFor self.new (mark ∷ marks) }
@@ -180,6 +181,7 @@ impl Window {
     }
 
     // The mark's number is so far above the newest.
+    #[inline(always)]
     fn advance(&mut self, step: u32) -> Entered
         requires few { self.old.entered < 2 ^ 62 }
         requires some { 0 < self.old.received }
@@ -260,6 +262,7 @@ impl Window {
 //     -------------+----------+----------------------+----------+---> numbers
 //        newest - width                           newest   newest + step
 //                    falls out        stays            passed
+#[inline(always)]
 fn move_on(recent: &mut Ring, width: u32, span: u128, pending: u32, step: u32) -> u32
     requires width_from { 1 ≤ width }
     requires width_to { width ≤ MAX_WIDTH }

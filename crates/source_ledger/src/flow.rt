@@ -58,6 +58,7 @@ impl FlowLedger {
     ///
     /// `Past` comes exactly where the sample is of an earlier generation of the boot, and then nothing is counted. A
     /// sample that opens a generation closes the last. Pool, drops and rate count where the answer is `First`.
+    #[inline(always)]
     pub fn enter(
         &mut self,
         boot: u64,

@@ -83,6 +83,7 @@ impl GenerationLedger {
     ///
     /// `Past` comes exactly where the sample is of an earlier generation of the boot, and then nothing is counted. A
     /// sample that opens a generation closes the last.
+    #[inline(always)]
     pub fn enter(&mut self, boot: u64, at: SamplePlace, mark: u32) -> Booked
         requires boot_from { self.old.boot ≤ boot }
         requires boot_counts { 1 ≤ boot }
@@ -208,6 +209,7 @@ impl GenerationLedger {
     }
 
     // A sample of the current generation.
+    #[inline(always)]
     fn go_on(&mut self, at: SamplePlace, mark: u32) -> Booked
         requires few { self.old.marks.entered + self.old.stale < 2 ^ 62 }
         ensures goes_on { GoesOn self.old self.new at mark result }

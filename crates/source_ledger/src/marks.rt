@@ -63,6 +63,7 @@ impl MarkLedger {
     }
 
     /// Enters a mark into the current stretch, of fewer than 2^62 entered before.
+    #[inline(always)]
     pub fn enter(&mut self, mark: u32) -> Entered
         requires few { self.old.entered < 2 ^ 62 }
         ensures stands { (current : List ℕ) (closed : List (List ℕ)) → StandsFor self.old (current ∷ closed)

@@ -45,6 +45,7 @@ impl SourceRecord {
     /// Enters what a sample shows that stands at this place in this boot, from 1 on; a boot later than that of the last
     /// one closes it. Fewer than 2^62 samples were entered before. `Past` comes exactly where the sample is of an
     /// earlier generation of the source.
+    #[inline(always)]
     pub fn enter(&mut self, boot: u64, at: SamplePlace, reading: SampleReading) -> Booked
         requires boot_from { boot_of self.old ≤ boot }
         requires boot_counts { 1 ≤ boot }
