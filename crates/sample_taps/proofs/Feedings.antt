@@ -1,8 +1,8 @@
 -- Briefs after briefs.
-use Rattle.std.proofs.Common.{◌≡◌, ℕ, ◌+◌, ◌<◌, Bool, true, false, not, cond, List, [], ◌∷◌, ◌++◌, length, take, get_or, refl, sym, ap, subst, ◌∙◌}
-use Rattle.std.proofs.lemmas.List.{take_more}
+use Rattle.std.proofs.Common.{◌≡◌, ℕ, ◌+◌, ◌<◌, Bool, true, false, not, cond, List, [], ◌∷◌, ◌++◌, length, take, drop, get_or, refl, sym, ap, subst, ◌∙◌, arith}
+use Rattle.std.proofs.lemmas.List.{take_more, take-append-drop}
 use Rattle.std.specs.List.{AllZip, filter}
-use Rattle.sample_taps.specs.Feeding.{Fed, Held, Takes}
+use Rattle.sample_taps.specs.Feeding.{Fed, Held}
 
 differ : true ≡ false → ⊥
 differ e = cc
@@ -27,6 +27,18 @@ module _ {X B : Type 0} (step : X → B → X → Type 0) (done : X → Bool) wh
   stays : (bs : List B) (x : X) → done x ≡ true → Fed step done bs x x
   stays [] x is = refl
   stays (b ∷ bs) x is = (λ _. refl, λ still. absurd (differ (sym is ∙ still)))
+
+  -- one that isn't done takes the next brief of a list
+  pub fed_next : (bs : List B) (n : ℕ) (d : B) (x y z : X) → n < length bs → Fed step done (take n bs) x y → done y ≡ false
+      → step y (get_or bs n d) z → Fed step done (take (n + 1) bs) x z
+  fed_next bs n d x y z lt first still took =
+      rw (take_more bs n d lt) (fed_more (take n bs) (get_or bs n d ∷ []) x y z first
+      (λ is. absurd (differ (sym is ∙ still)), λ _. (z, took, refl)))
+
+  -- one that is done after some briefs of a list stays so for the others
+  pub fed_early : (bs : List B) (n : ℕ) (x y : X) → Fed step done (take n bs) x y → done y ≡ true → Fed step done bs x y
+  fed_early bs n x y first is =
+      subst (λ l. Fed step done l x y) (take-append-drop n bs) (fed_more (take n bs) (drop n bs) x y y first (stays (drop n bs) y is))
 
   -- what those that were held become, with those that had gone
   pub record Joined (bs : List B) (xs outs : List X) : Type 0 where
@@ -71,18 +83,18 @@ module _ {X B : Type 0} (step : X → B → X → Type 0) (done : X → Bool) wh
       let joined = join (b ∷ bs) (c ∷ cs) xs first.0 more.0 first.1 (subst (λ v. AllZip (Fed step done (c ∷ cs)) v more.0) first.2 more.1) in
       (joined.afters, joined.fed, more.2 ∙ sym joined.same)
 
-  -- one more brief of a list
-  pub held_next : (xs : List X) (bs : List B) (n : ℕ) (d : B) (ys zs : List X) → n < length bs
-      → Held step done (take n bs) xs ys → Held step done (get_or bs n d ∷ []) ys zs → Held step done (take (n + 1) bs) xs zs
-  held_next xs bs n d ys zs lt first more =
-      rw (take_more bs n d lt) (held_more (take n bs) (get_or bs n d ∷ []) xs ys zs first more)
+  -- those that are held after some briefs
+  pub held_all : (bs : List B) (xs afters ys : List X) → 0 < length bs → AllZip (Fed step done bs) xs afters
+      → ys ≡ filter (λ y. not (done y)) afters → Held step done bs xs ys
+  held_all [] xs afters ys some fed same = absurd (omega (arith, some))
+  held_all (b ∷ bs) xs afters ys some fed same = (afters, fed, same)
 
-  -- what one brief makes of one consumer, as a list of one brief
-  fed_one : (b : B) (x y : X) → Takes step done b x y → Fed step done (b ∷ []) x y
-  fed_one b x y takes = (takes.rests, λ still. (y, takes.steps still, refl))
-
-  pub all_fed : (b : B) (xs ys : List X) → AllZip (Takes step done b) xs ys → AllZip (Fed step done (b ∷ [])) xs ys
-  all_fed b [] [] takes = tt
-  all_fed b [] (y ∷ ys) takes = absurd takes
-  all_fed b (x ∷ xs) [] takes = absurd takes
-  all_fed b (x ∷ xs) (y ∷ ys) takes = (fed_one b x y takes.0, all_fed b xs ys takes.1)
+-- what briefs make of a value, they make of that which holds the value
+module _ {X V B : Type 0} (step : V → B → V → Type 0) (done : V → Bool) (held_step : X → B → X → Type 0) (held_done : X → Bool)
+    (hold : V → X) (same : (v : V) → held_done (hold v) ≡ done v) (takes : (v : V) (b : B) (w : V) → step v b w → held_step (hold v) b (hold w)) where
+  pub fed_within : (bs : List B) (v w : V) → Fed step done bs v w → Fed held_step held_done bs (hold v) (hold w)
+  fed_within [] v w fed = ap hold fed
+  fed_within (b ∷ bs) v w fed = (
+    λ is. ap hold (fed.0 (sym (same v) ∙ is)),
+    λ still. let one = fed.1 (sym (same v) ∙ still) in (hold one.0, takes v b one.0 one.1, fed_within bs one.0 w one.2),
+  )

@@ -12,8 +12,3 @@ module _ {X B : Type 0} (step : X → B → X → Type 0) (done : X → Bool) wh
   abbrev pub Held : List B → List X → List X → Type 0
   Held [] xs ys = ys ≡ xs
   Held (b ∷ bs) xs ys = (afters : List X) × AllZip (Fed (b ∷ bs)) xs afters × (ys ≡ filter (λ y. not (done y)) afters)
-
-  -- what one brief makes of one consumer: one that is done stays, and another one takes it
-  pub record Takes (b : B) (x y : X) : Type 0 where
-    pub rests : done x ≡ true → y ≡ x
-    pub steps : done x ≡ false → step x b y

@@ -10,6 +10,7 @@ pub type Line = ArrayString<160>;
 /// and by `text` what it prints.
 pub trait Tap: Drop {
     ghost use Rattle.sample_taps.specs.declared.brief.Brief.{Brief};
+    ghost use Rattle.sample_taps.specs.Feeding.{Fed};
 
     // what it may be after it took the brief
     ghost step: { Self → Brief → Self → Type 0 };
@@ -24,9 +25,21 @@ pub trait Tap: Drop {
     fn take(&mut self, brief: &Brief)
         ensures { step self.old brief.now self.new };
 
-    /// Whether it is done: it is given no more briefs, and is dropped after the next one that the others take.
+    /// Whether it is done: it is given no more briefs, and is dropped after the next ones that the others take.
     fn done(&self) -> bool
         ensures { result ≡ ended self.now };
+
+    /// Takes one brief after the other until it is done. A consumer of one's own need not write it.
+    fn take_all(&mut self, briefs: &[Brief])
+        ensures { Fed step ended briefs.now self.old self.new }
+    {
+        for brief in briefs {
+            if self.done() {
+                return;
+            }
+            self.take(brief);
+        }
+    }
 
     /// Its line in a report.
     fn line(&self) -> Line

@@ -1,10 +1,11 @@
 // The consumers of a run.
 ghost use Rattle.std.specs.Prelude.{◌≡◌, ◌+◌, ◌<◌, ◌≤◌, ◌^◌, ℕ, Bool, List, [], ◌∷◌, not, vec_len, Some, slice_get};
 ghost use Rattle.std.specs.List.{AllZip, filter};
-ghost use Rattle.sample_taps.specs.Feeding.{Takes, Held};
+ghost use Rattle.sample_taps.specs.Feeding.{Fed, Held};
 
 use crate::brief::Brief;
 use crate::tap::{Line, Tap};
+use std::slice;
 
 /// Consumers in the order in which they were handed in, each until it is done.
 #[derive(Drop)]
@@ -15,10 +16,11 @@ pub struct Taps {
     pub ended: u64,
 }
 
-fn take_in(tap: &mut Box<dyn Tap>, brief: &Brief)
-    ensures { (v : _) × (tap.new ≡ record tap.old { value = v }) × (⟦<dyn Tap as Tap>⟧ tap.old.vtable).step tap.old.value brief.now v }
+fn take_all_in(tap: &mut Box<dyn Tap>, briefs: &[Brief])
+    ensures { Fed (λ x b y. (v : _) × (y ≡ record x { value = v }) × (⟦<dyn Tap as Tap>⟧ x.vtable).step x.value b v)
+        (λ x. (⟦<dyn Tap as Tap>⟧ x.vtable).ended x.value) briefs.now tap.old tap.new }
 {
-    tap.take(brief);
+    tap.take_all(briefs);
 }
 
 fn is_done(tap: &Box<dyn Tap>) -> bool
@@ -33,22 +35,13 @@ fn line_of(tap: &Box<dyn Tap>) -> Line
     tap.line()
 }
 
-// One that isn't done takes the brief.
-fn give(tap: &mut Box<dyn Tap>, brief: &Brief)
-    ensures { Takes (λ x b y. (v : _) × (y ≡ record x { value = v }) × (⟦<dyn Tap as Tap>⟧ x.vtable).step x.value b v)
-        (λ x. (⟦<dyn Tap as Tap>⟧ x.vtable).ended x.value) brief.now tap.old tap.new }
-{
-    if !is_done(tap) {
-        take_in(tap, brief);
-    }
-}
-
-fn give_all(taps: &mut [Box<dyn Tap>], brief: &Brief)
-    ensures { AllZip (Takes (λ x b y. (v : _) × (y ≡ record x { value = v }) × (⟦<dyn Tap as Tap>⟧ x.vtable).step x.value b v)
-        (λ x. (⟦<dyn Tap as Tap>⟧ x.vtable).ended x.value) brief.now) taps.old taps.new }
+// Each takes the briefs, one after the other, until it is done.
+fn give_all(taps: &mut [Box<dyn Tap>], briefs: &[Brief])
+    ensures { AllZip (Fed (λ x b y. (v : _) × (y ≡ record x { value = v }) × (⟦<dyn Tap as Tap>⟧ x.vtable).step x.value b v)
+        (λ x. (⟦<dyn Tap as Tap>⟧ x.vtable).ended x.value) briefs.now) taps.old taps.new }
 {
     for tap in taps {
-        give(tap, brief);
+        take_all_in(tap, briefs);
     }
 }
 
@@ -84,23 +77,25 @@ impl Taps {
             (λ x. (⟦<dyn Tap as Tap>⟧ x.vtable).ended x.value) (brief.now ∷ []) self.old.held.items self.new.held.items }
         ensures ended { self.new.ended + vec_len self.new.held ≡ self.old.ended + vec_len self.old.held }
     {
-        let before = self.held.len();
-        give_all(&mut self.held, brief);
-        close_up(&mut self.held);
-        self.ended += (before - self.held.len()) as u64;
+        self.feed_all(slice::from_ref(brief));
     }
 
-    /// What `feed` makes of one brief after the other. Those held then are, in order, the ones handed in that the
-    /// briefs don't leave done, each as its briefs leave it; the others were counted. Without a brief all stay held.
+    /// Each consumer in its turn takes one brief after the other until it is done. Then every one that is done is dropped
+    /// and counted. Those held then are, in order, the ones handed in that the briefs don't leave done, each as its briefs
+    /// leave it. Without a brief all stay held, also one that is done.
     pub fn feed_all(&mut self, briefs: &[Brief])
         requires { self.old.ended + vec_len self.old.held < 2 ^ 64 }
         ensures held { Held (λ x b y. (v : _) × (y ≡ record x { value = v }) × (⟦<dyn Tap as Tap>⟧ x.vtable).step x.value b v)
             (λ x. (⟦<dyn Tap as Tap>⟧ x.vtable).ended x.value) briefs.now self.old.held.items self.new.held.items }
         ensures ended { self.new.ended + vec_len self.new.held ≡ self.old.ended + vec_len self.old.held }
     {
-        for brief in briefs {
-            self.feed(brief);
+        if briefs.is_empty() {
+            return;
         }
+        let before = self.held.len();
+        give_all(&mut self.held, briefs);
+        close_up(&mut self.held);
+        self.ended += (before - self.held.len()) as u64;
     }
 
     /// How many are held.

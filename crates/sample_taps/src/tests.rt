@@ -77,6 +77,27 @@ fn a_done_one_is_dropped(rt: HostRuntime) -> Result<(), Fail> {
     Ok(())
 }
 
+// One that is done in the middle of a batch takes no more of it, and is dropped; the others take all of it.
+#[test]
+fn one_done_within_a_batch(rt: HostRuntime) -> Result<(), Fail> {
+    let briefs = [brief(64, 443), brief(64, 443), brief(64, 443)];
+    let mut alone = CountTap::new(2);
+    alone.take_all(&briefs);
+    assert!(rt; alone.count == 2);
+    let mut boxes: Vec<Box<dyn Tap>> = Vec::new(rt.alloc());
+    boxes.push(Box::new(rt.alloc(), CountTap::new(2))?)?;
+    boxes.push(Box::new(rt.alloc(), CountTap::new(4))?)?;
+    let mut taps = Taps::new(boxes);
+    if taps.len() < 100 && taps.ended() < 100 {
+        taps.feed_all(&briefs);
+    }
+    assert!(rt; taps.len() == 1 && taps.ended() == 1);
+    if taps.len() == 1 {
+        assert!(rt; taps.line(0).as_str() == "tap headers 3");
+    }
+    Ok(())
+}
+
 // Two lengths, and of three ports the least of those with the greatest count.
 #[test]
 fn lines_tell_the_counts(rt: HostRuntime) -> Result<(), Fail> {

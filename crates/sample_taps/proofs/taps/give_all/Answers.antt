@@ -3,11 +3,11 @@ use Rattle.sample_taps.proofs.Partway.{at_first, further, at_last}
 use Rattle.sample_taps.proofs.taps.give_all.Goals as goal
 
 pub loop-tap-init : goal.loop-tap-init
-loop-tap-init g c = at_first _ _ _ _
+loop-tap-init g c = at_first _ _
 
 pub loop-tap-preserved : goal.loop-tap-preserved
 loop-tap-preserved g c =
-    further _ _ _ c.loop-tap.tap-index _ _ c.tap-item.result c.give.new.tap c.loop-tap.invariant (search rules) c.give.ensures
+    further _ c.loop-tap.tap-index _ _ c.tap-item.result c.take_all_in.new.tap c.loop-tap.invariant (search rules) c.take_all_in.ensures
 
 pub returns : goal.returns
-returns g c = at_last _ _ _ c.loop-tap.tap-index _ _ c.loop-tap.invariant (search rules)
+returns g c = at_last _ c.loop-tap.tap-index _ _ c.loop-tap.invariant (search rules)
