@@ -1,4 +1,4 @@
--- What a hash takes of a stream: whole words of eight bytes, as few as there may be.
+-- What a hash takes of a stream and of a source: whole words of eight bytes, as few as there may be.
 use Rattle.std.specs.Prelude.{◌≡◌, ℕ, ◌+◌, ◌*◌, ◌%◌, ◌^◌, ◌++◌, ◌&&◌, ◌==◌, [], nat_le, if◌then◌else◌, IsTrue}
 use Rattle.std.specs.Cmp.{first_so, second_so, unsigned_Decides}
 use Rattle.std.specs.Cmp.Lexicographic.{pointwise_decides}

@@ -81,7 +81,9 @@ impl Hash for SourceKey {
         let stream = (self.stream % (1 << 20)) as u64;
         let kind = self.kind.is_flow() as u64;
         let class = (self.source.class % (1 << 11)) as u64;
-        state.write_u64(((stream * 2 + kind) * (1 << 11) + class) * (1 << 32) + self.source.index as u64);
+        state.write_u64(
+            ((stream * 2 + kind) * (1 << 11) + class) * (1 << 32) + self.source.index as u64,
+        );
         if self.source.class >= 1 << 11 {
             state.write_u64(self.source.class as u64);
         }
